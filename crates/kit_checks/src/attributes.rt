@@ -13,8 +13,8 @@ use crate::reading::kind_of;
 use ir_context::{BlockCalls, Context, OperationCalls};
 use ir_names::AttributeDict;
 use ir_program::{BasicBlock, Operation, Ptr};
-use ir_types::DialectTables;
-use kit_ops::{KitAttr, KitOp, KitType, keys};
+use kit::Kit;
+use kit_ops::{KitAttr, KitOp, keys};
 
 /// Whether two keys are the same.
 fn is_key(key: &str, other: &str) -> bool
@@ -70,11 +70,7 @@ fn may_have(kind: KitOp, key: &str, attr: &KitAttr) -> bool
 }
 
 /// Whether an operation of a kind may have the attribute at an index.
-fn may_have_at<D: DialectTables<OpKind = KitOp, Attr = KitAttr, TypeKey = KitType>>(
-    attributes: &AttributeDict<D>,
-    index: usize,
-    kind: KitOp,
-) -> bool
+fn may_have_at(attributes: &AttributeDict<Kit>, index: usize, kind: KitOp) -> bool
     ensures { (e : List ℕ × KitAttr) → slice_get attributes.now index ≡ Some e → IsTrue result ↔ MayHave kind e }
 {
     match attributes.entry(index) {
@@ -84,10 +80,7 @@ fn may_have_at<D: DialectTables<OpKind = KitOp, Attr = KitAttr, TypeKey = KitTyp
 }
 
 /// Whether every block may have the attribute at an index.
-fn is_common_at<D: DialectTables<OpKind = KitOp, Attr = KitAttr, TypeKey = KitType>>(
-    attributes: &AttributeDict<D>,
-    index: usize,
-) -> bool
+fn is_common_at(attributes: &AttributeDict<Kit>, index: usize) -> bool
     ensures { (e : List ℕ × KitAttr) → slice_get attributes.now index ≡ Some e → IsTrue result ↔ IsCommon e }
 {
     match attributes.entry(index) {
@@ -97,10 +90,7 @@ fn is_common_at<D: DialectTables<OpKind = KitOp, Attr = KitAttr, TypeKey = KitTy
 }
 
 /// Whether an operation of a kind may have all these attributes.
-fn may_have_all<D: DialectTables<OpKind = KitOp, Attr = KitAttr, TypeKey = KitType>>(
-    attributes: &AttributeDict<D>,
-    kind: KitOp,
-) -> bool
+fn may_have_all(attributes: &AttributeDict<Kit>, kind: KitOp) -> bool
     ensures { IsTrue result ↔ Every (MayHave kind) attributes.now }
 {
     for index in 0..attributes.len() {
@@ -112,9 +102,7 @@ fn may_have_all<D: DialectTables<OpKind = KitOp, Attr = KitAttr, TypeKey = KitTy
 }
 
 /// Whether every block may have all these attributes.
-fn are_common<D: DialectTables<OpKind = KitOp, Attr = KitAttr, TypeKey = KitType>>(
-    attributes: &AttributeDict<D>,
-) -> bool
+fn are_common(attributes: &AttributeDict<Kit>) -> bool
     ensures { IsTrue result ↔ Every IsCommon attributes.now }
 {
     for index in 0..attributes.len() {
@@ -126,9 +114,7 @@ fn are_common<D: DialectTables<OpKind = KitOp, Attr = KitAttr, TypeKey = KitType
 }
 
 /// Whether an operation may have its attributes.
-pub(crate) fn has_known_attributes<
-    D: DialectTables<OpKind = KitOp, Attr = KitAttr, TypeKey = KitType>,
->(ctx: &Context<D>, op: Ptr<Operation>) -> bool
+pub(crate) fn has_known_attributes(ctx: &Context<Kit>, op: Ptr<Operation>) -> bool
     requires { IsSome (operation_at ctx.now.program op) }
     ensures { OfTree ctx.now.program op (λ u. IsTrue result ↔ Every (MayHave (kind_of (world_of ctx.now) u))
         ((world_of ctx.now).attributes u.head.content)) }
@@ -138,9 +124,7 @@ pub(crate) fn has_known_attributes<
 }
 
 /// Whether a block may have its attributes.
-pub(crate) fn has_common_attributes<
-    D: DialectTables<OpKind = KitOp, Attr = KitAttr, TypeKey = KitType>,
->(ctx: &Context<D>, block: Ptr<BasicBlock>) -> bool
+pub(crate) fn has_common_attributes(ctx: &Context<Kit>, block: Ptr<BasicBlock>) -> bool
     requires { IsSome (block_at ctx.now.program block) }
     ensures { OfBody ctx.now.program block (λ b. IsTrue result ↔ Every IsCommon
         ((world_of ctx.now).block_attributes b.label.content)) }

@@ -11,8 +11,7 @@ use crate::attributes::has_common_attributes;
 use crate::types::{TypeTest, arguments_pass};
 use ir_context::Context;
 use ir_program::{BasicBlock, Operation, Program, Ptr, Region};
-use ir_types::DialectTables;
-use kit_ops::{KitAttr, KitOp, KitType};
+use kit::Kit;
 
 /// What is asked of a block.
 #[derive(Clone, Copy)]
@@ -37,11 +36,7 @@ fn is_filled<O, B>(program: &Program<O, B>, block: Ptr<BasicBlock>) -> bool
 }
 
 /// Whether a block passes a test.
-fn block_passes<D: DialectTables<OpKind = KitOp, Attr = KitAttr, TypeKey = KitType>>(
-    ctx: &Context<D>,
-    test: BlockTest,
-    block: Ptr<BasicBlock>,
-) -> bool
+fn block_passes(ctx: &Context<Kit>, test: BlockTest, block: Ptr<BasicBlock>) -> bool
     requires { IsSome (block_at ctx.now.program block) }
     ensures { OfBody ctx.now.program block (λ b. IsTrue result ↔ BlockPasses (world_of ctx.now) test b) }
 {
@@ -53,11 +48,7 @@ fn block_passes<D: DialectTables<OpKind = KitOp, Attr = KitAttr, TypeKey = KitTy
 }
 
 /// Whether the blocks of a region pass a test.
-fn region_passes<D: DialectTables<OpKind = KitOp, Attr = KitAttr, TypeKey = KitType>>(
-    ctx: &Context<D>,
-    test: BlockTest,
-    region: Ptr<Region>,
-) -> bool
+fn region_passes(ctx: &Context<Kit>, test: BlockTest, region: Ptr<Region>) -> bool
     requires { IsSome (region_at ctx.now.program region) }
     ensures { OfRegion ctx.now.program region
         (λ blocks. IsTrue result ↔ Every (BlockPasses (world_of ctx.now) test) (block_list blocks)) }
@@ -74,11 +65,7 @@ fn region_passes<D: DialectTables<OpKind = KitOp, Attr = KitAttr, TypeKey = KitT
 
 /// Whether all blocks of all regions of an operation pass a test.
 #[inline(always)]
-pub(crate) fn blocks_pass<D: DialectTables<OpKind = KitOp, Attr = KitAttr, TypeKey = KitType>>(
-    ctx: &Context<D>,
-    op: Ptr<Operation>,
-    test: BlockTest,
-) -> bool
+pub(crate) fn blocks_pass(ctx: &Context<Kit>, op: Ptr<Operation>, test: BlockTest) -> bool
     requires { IsSome (operation_at ctx.now.program op) }
     ensures { OfTree ctx.now.program op (λ u. IsTrue result ↔ Every (BlockPasses (world_of ctx.now) test)
         (bodies_of u)) }

@@ -12,8 +12,8 @@ use crate::types::{TypeTest, results_pass};
 use ir_context::Context;
 use ir_names::Signedness;
 use ir_program::{Operation, Ptr};
-use ir_types::DialectTables;
-use kit_ops::{IntegerAttr, IntegerType, KitAttr, KitOp, KitType, keys};
+use kit::Kit;
+use kit_ops::{IntegerAttr, IntegerType, KitOp, keys};
 
 fn is_same_sign(a: Signedness, b: Signedness) -> bool
     ensures { IsTrue result ↔ (a ≡ b) }
@@ -46,10 +46,7 @@ fn fits_width(bits: u64, width: u32) -> bool
 }
 
 /// Whether an attribute is a number of the integer type that it says.
-fn is_integer_of<D: DialectTables<OpKind = KitOp, Attr = KitAttr, TypeKey = KitType>>(
-    ctx: &Context<D>,
-    value: IntegerAttr,
-) -> bool
+fn is_integer_of(ctx: &Context<Kit>, value: IntegerAttr) -> bool
     ensures { IsTrue result ↔ IsIntegerOf (world_of ctx.now) value }
 {
     match integer_type(ctx, value.ty) {
@@ -64,10 +61,7 @@ fn is_integer_of<D: DialectTables<OpKind = KitOp, Attr = KitAttr, TypeKey = KitT
 }
 
 /// Whether an operation has as its value an integer attribute of the type of its results.
-fn has_constant_value<D: DialectTables<OpKind = KitOp, Attr = KitAttr, TypeKey = KitType>>(
-    ctx: &Context<D>,
-    op: Ptr<Operation>,
-) -> bool
+fn has_constant_value(ctx: &Context<Kit>, op: Ptr<Operation>) -> bool
     requires { IsSome (operation_at ctx.now.program op) }
     ensures { OfTree ctx.now.program op (λ u. IsTrue result ↔ HasConstantValue (world_of ctx.now) u) }
 {
@@ -94,10 +88,7 @@ fn is_constant(kind: KitOp) -> bool
 
 /// Whether a constant has as its value an integer attribute of the type of its results.
 #[inline(always)]
-pub(crate) fn constants_fit<D: DialectTables<OpKind = KitOp, Attr = KitAttr, TypeKey = KitType>>(
-    ctx: &Context<D>,
-    op: Ptr<Operation>,
-) -> bool
+pub(crate) fn constants_fit(ctx: &Context<Kit>, op: Ptr<Operation>) -> bool
     requires { IsSome (operation_at ctx.now.program op) }
     ensures { OfTree ctx.now.program op (λ u. IsTrue result ↔ (kind_of (world_of ctx.now) u ≡ Constant
         → HasConstantValue (world_of ctx.now) u)) }

@@ -14,8 +14,8 @@ use crate::reading::{kind_of, sizes_under};
 use crate::types::{TypeTest, argument_count, argument_type, type_passes};
 use ir_context::{Context, OperandCalls, SuccessorCalls};
 use ir_program::{BasicBlock, Operation, Program, Ptr, Region};
-use ir_types::DialectTables;
-use kit_ops::{KitAttr, KitOp, KitType, keys};
+use kit::Kit;
+use kit_ops::{KitOp, keys};
 
 /// Whether a block is in a region.
 fn is_in_region<O, B>(program: &Program<O, B>, block: Ptr<BasicBlock>, region: Ptr<Region>) -> bool
@@ -57,11 +57,7 @@ fn are_beside<O, B>(program: &Program<O, B>, op: Ptr<Operation>) -> bool
 }
 
 /// Whether all successors of an operation are in the region that it is in, which for the root is none.
-fn edges_stay<D: DialectTables<OpKind = KitOp, Attr = KitAttr, TypeKey = KitType>>(
-    ctx: &Context<D>,
-    root: Ptr<Operation>,
-    op: Ptr<Operation>,
-) -> bool
+fn edges_stay(ctx: &Context<Kit>, root: Ptr<Operation>, op: Ptr<Operation>) -> bool
     requires { IsSome (operation_at ctx.now.program op) }
     ensures { OfSite ctx.now.program root op (λ s. IsTrue result ↔ EdgesStay s) }
 {
@@ -74,8 +70,8 @@ fn edges_stay<D: DialectTables<OpKind = KitOp, Attr = KitAttr, TypeKey = KitType
 }
 
 /// Whether some operands in a row have the types of a block's arguments, in number and order.
-fn fit_arguments<D: DialectTables<OpKind = KitOp, Attr = KitAttr, TypeKey = KitType>>(
-    ctx: &Context<D>,
+fn fit_arguments(
+    ctx: &Context<Kit>,
     op: Ptr<Operation>,
     first: usize,
     count: usize,
@@ -102,10 +98,7 @@ fn fit_arguments<D: DialectTables<OpKind = KitOp, Attr = KitAttr, TypeKey = KitT
 }
 
 /// Whether all operands have the types of the arguments of each block that an edge leads to.
-fn all_fit<D: DialectTables<OpKind = KitOp, Attr = KitAttr, TypeKey = KitType>>(
-    ctx: &Context<D>,
-    op: Ptr<Operation>,
-) -> bool
+fn all_fit(ctx: &Context<Kit>, op: Ptr<Operation>) -> bool
     requires { IsSome (operation_at ctx.now.program op) }
     ensures { IsTrue result ↔ AllFit (world_of ctx.now) ctx.now.program op }
 {
@@ -130,11 +123,7 @@ fn size_at(sizes: &[u32], index: usize, most: usize) -> usize
 
 /// Whether for each edge the operands of its segment, of those behind the first one, have the types of the arguments of the
 /// block that it leads to.
-fn segments_fit<D: DialectTables<OpKind = KitOp, Attr = KitAttr, TypeKey = KitType>>(
-    ctx: &Context<D>,
-    op: Ptr<Operation>,
-    sizes: &[u32],
-) -> bool
+fn segments_fit(ctx: &Context<Kit>, op: Ptr<Operation>, sizes: &[u32]) -> bool
     requires { IsSome (operation_at ctx.now.program op) }
     ensures { IsTrue result ↔ SegmentsFit (world_of ctx.now) ctx.now.program op sizes.now }
 {
@@ -151,10 +140,7 @@ fn segments_fit<D: DialectTables<OpKind = KitOp, Attr = KitAttr, TypeKey = KitTy
 }
 
 /// The sizes of the segments of an operation's operands; none where it doesn't say them.
-fn sizes_of<'a, D: DialectTables<OpKind = KitOp, Attr = KitAttr, TypeKey = KitType>>(
-    ctx: &'a Context<D>,
-    op: Ptr<Operation>,
-) -> &'a [u32]
+fn sizes_of<'a>(ctx: &'a Context<Kit>, op: Ptr<Operation>) -> &'a [u32]
     requires { IsSome (operation_at ctx.now.program op) }
     ensures { OfTree ctx.now.program op (λ u. sizes_or_none (segment_sizes (world_of ctx.now) u) ≡ result.now) }
 {
@@ -165,10 +151,7 @@ fn sizes_of<'a, D: DialectTables<OpKind = KitOp, Attr = KitAttr, TypeKey = KitTy
 }
 
 /// Whether what an operation hands on along each edge has the types of the arguments of the block that it leads to.
-fn edges_hand_on<D: DialectTables<OpKind = KitOp, Attr = KitAttr, TypeKey = KitType>>(
-    ctx: &Context<D>,
-    op: Ptr<Operation>,
-) -> bool
+fn edges_hand_on(ctx: &Context<Kit>, op: Ptr<Operation>) -> bool
     requires { IsSome (operation_at ctx.now.program op) }
     ensures { OfTree ctx.now.program op (λ u. IsTrue result ↔ EdgesHandOn (world_of ctx.now) ctx.now.program u) }
 {
@@ -182,11 +165,7 @@ fn edges_hand_on<D: DialectTables<OpKind = KitOp, Attr = KitAttr, TypeKey = KitT
 /// Whether each edge of an operation leads to a block of its region, and hands on operands of the types of the
 /// arguments there.
 #[inline(always)]
-pub(crate) fn edges_fit<D: DialectTables<OpKind = KitOp, Attr = KitAttr, TypeKey = KitType>>(
-    ctx: &Context<D>,
-    root: Ptr<Operation>,
-    op: Ptr<Operation>,
-) -> bool
+pub(crate) fn edges_fit(ctx: &Context<Kit>, root: Ptr<Operation>, op: Ptr<Operation>) -> bool
     requires { IsSome (operation_at ctx.now.program op) }
     ensures { OfSite ctx.now.program root op (λ s. IsTrue result ↔ EdgesFit (world_of ctx.now) s) }
 {

@@ -13,12 +13,12 @@ use crate::reading::{
 };
 use ir_context::{Context, OperandCalls};
 use ir_program::{Operation, Ptr};
-use ir_types::DialectTables;
-use kit_ops::{FunctionType, KitAttr, KitOp, KitType, keys};
+use kit::Kit;
+use kit_ops::{FunctionType, KitAttr, KitOp, keys};
 
 /// Whether an operation has so many results, regions and operands, and no successor.
-fn has_shape<D: DialectTables<OpKind = KitOp, Attr = KitAttr, TypeKey = KitType>>(
-    ctx: &Context<D>,
+fn has_shape(
+    ctx: &Context<Kit>,
     op: Ptr<Operation>,
     results: usize,
     regions: usize,
@@ -34,10 +34,7 @@ fn has_shape<D: DialectTables<OpKind = KitOp, Attr = KitAttr, TypeKey = KitType>
 }
 
 /// Whether an operation has a name.
-fn has_name<D: DialectTables<OpKind = KitOp, Attr = KitAttr, TypeKey = KitType>>(
-    ctx: &Context<D>,
-    op: Ptr<Operation>,
-) -> bool
+fn has_name(ctx: &Context<Kit>, op: Ptr<Operation>) -> bool
     requires { IsSome (operation_at ctx.now.program op) }
     ensures { OfTree ctx.now.program op (λ u. IsTrue result ↔ HasName (world_of ctx.now) u) }
 {
@@ -48,10 +45,7 @@ fn has_name<D: DialectTables<OpKind = KitOp, Attr = KitAttr, TypeKey = KitType>>
 }
 
 /// Whether an operation has a type of its own.
-fn has_own_type<D: DialectTables<OpKind = KitOp, Attr = KitAttr, TypeKey = KitType>>(
-    ctx: &Context<D>,
-    op: Ptr<Operation>,
-) -> bool
+fn has_own_type(ctx: &Context<Kit>, op: Ptr<Operation>) -> bool
     requires { IsSome (operation_at ctx.now.program op) }
     ensures { OfTree ctx.now.program op (λ u. IsTrue result ↔ HasOwnType (world_of ctx.now) u) }
 {
@@ -62,10 +56,7 @@ fn has_own_type<D: DialectTables<OpKind = KitOp, Attr = KitAttr, TypeKey = KitTy
 }
 
 /// Whether an operation has an integer or a type as its value.
-fn has_value<D: DialectTables<OpKind = KitOp, Attr = KitAttr, TypeKey = KitType>>(
-    ctx: &Context<D>,
-    op: Ptr<Operation>,
-) -> bool
+fn has_value(ctx: &Context<Kit>, op: Ptr<Operation>) -> bool
     requires { IsSome (operation_at ctx.now.program op) }
     ensures { OfTree ctx.now.program op (λ u. IsTrue result ↔ HasValue (world_of ctx.now) u) }
 {
@@ -96,10 +87,7 @@ fn are_segments(sizes: &[u32], count: usize) -> bool
 }
 
 /// Whether an operation has a condition and the operands of two edges.
-fn has_segments<D: DialectTables<OpKind = KitOp, Attr = KitAttr, TypeKey = KitType>>(
-    ctx: &Context<D>,
-    op: Ptr<Operation>,
-) -> bool
+fn has_segments(ctx: &Context<Kit>, op: Ptr<Operation>) -> bool
     requires { IsSome (operation_at ctx.now.program op) }
     ensures { OfTree ctx.now.program op (λ u. IsTrue result ↔ HasSegments (world_of ctx.now) u) }
 {
@@ -110,10 +98,7 @@ fn has_segments<D: DialectTables<OpKind = KitOp, Attr = KitAttr, TypeKey = KitTy
 }
 
 /// Whether an operation has the name of what it calls.
-fn has_callee<D: DialectTables<OpKind = KitOp, Attr = KitAttr, TypeKey = KitType>>(
-    ctx: &Context<D>,
-    op: Ptr<Operation>,
-) -> bool
+fn has_callee(ctx: &Context<Kit>, op: Ptr<Operation>) -> bool
     requires { IsSome (operation_at ctx.now.program op) }
     ensures { OfTree ctx.now.program op (λ u. IsTrue result ↔ HasCallee (world_of ctx.now) u) }
 {
@@ -124,10 +109,7 @@ fn has_callee<D: DialectTables<OpKind = KitOp, Attr = KitAttr, TypeKey = KitType
 }
 
 /// The function type that a call says.
-fn callee_signature<'a, D: DialectTables<OpKind = KitOp, Attr = KitAttr, TypeKey = KitType>>(
-    ctx: &'a Context<D>,
-    op: Ptr<Operation>,
-) -> Option<&'a FunctionType>
+fn callee_signature<'a>(ctx: &'a Context<Kit>, op: Ptr<Operation>) -> Option<&'a FunctionType>
     requires { IsSome (operation_at ctx.now.program op) }
     ensures { OfTree ctx.now.program op (λ u. callee_signature (world_of ctx.now) u ≡ option_copied result) }
 {
@@ -138,11 +120,7 @@ fn callee_signature<'a, D: DialectTables<OpKind = KitOp, Attr = KitAttr, TypeKey
 }
 
 /// Whether an operation has as many operands and results as a function type, and no successor or region.
-fn has_numbers_of<D: DialectTables<OpKind = KitOp, Attr = KitAttr, TypeKey = KitType>>(
-    ctx: &Context<D>,
-    op: Ptr<Operation>,
-    signature: &FunctionType,
-) -> bool
+fn has_numbers_of(ctx: &Context<Kit>, op: Ptr<Operation>, signature: &FunctionType) -> bool
     requires { IsSome (operation_at ctx.now.program op) }
     ensures { OfTree ctx.now.program op (λ u. IsTrue result ↔ HasNumbersOf u signature.now) }
 {
@@ -150,10 +128,7 @@ fn has_numbers_of<D: DialectTables<OpKind = KitOp, Attr = KitAttr, TypeKey = Kit
 }
 
 /// Whether an operation has the name and the type of a function, and the numbers of this type.
-fn has_call_numbers<D: DialectTables<OpKind = KitOp, Attr = KitAttr, TypeKey = KitType>>(
-    ctx: &Context<D>,
-    op: Ptr<Operation>,
-) -> bool
+fn has_call_numbers(ctx: &Context<Kit>, op: Ptr<Operation>) -> bool
     requires { IsSome (operation_at ctx.now.program op) }
     ensures { OfTree ctx.now.program op (λ u. IsTrue result ↔ HasCallNumbers (world_of ctx.now) u) }
 {
@@ -167,10 +142,7 @@ fn has_call_numbers<D: DialectTables<OpKind = KitOp, Attr = KitAttr, TypeKey = K
 }
 
 /// Whether an operation has the format of a module.
-fn fits_module<D: DialectTables<OpKind = KitOp, Attr = KitAttr, TypeKey = KitType>>(
-    ctx: &Context<D>,
-    op: Ptr<Operation>,
-) -> bool
+fn fits_module(ctx: &Context<Kit>, op: Ptr<Operation>) -> bool
     requires { IsSome (operation_at ctx.now.program op) }
     ensures { OfTree ctx.now.program op (λ u. IsTrue result ↔ FitsKind (world_of ctx.now) u Module) }
 {
@@ -181,10 +153,7 @@ fn fits_module<D: DialectTables<OpKind = KitOp, Attr = KitAttr, TypeKey = KitTyp
 }
 
 /// Whether an operation has the format of a function.
-fn fits_function<D: DialectTables<OpKind = KitOp, Attr = KitAttr, TypeKey = KitType>>(
-    ctx: &Context<D>,
-    op: Ptr<Operation>,
-) -> bool
+fn fits_function(ctx: &Context<Kit>, op: Ptr<Operation>) -> bool
     requires { IsSome (operation_at ctx.now.program op) }
     ensures { OfTree ctx.now.program op (λ u. IsTrue result ↔ FitsKind (world_of ctx.now) u Func) }
 {
@@ -198,10 +167,7 @@ fn fits_function<D: DialectTables<OpKind = KitOp, Attr = KitAttr, TypeKey = KitT
 }
 
 /// Whether an operation has the format of a constant.
-fn fits_constant<D: DialectTables<OpKind = KitOp, Attr = KitAttr, TypeKey = KitType>>(
-    ctx: &Context<D>,
-    op: Ptr<Operation>,
-) -> bool
+fn fits_constant(ctx: &Context<Kit>, op: Ptr<Operation>) -> bool
     requires { IsSome (operation_at ctx.now.program op) }
     ensures { OfTree ctx.now.program op (λ u. IsTrue result ↔ FitsKind (world_of ctx.now) u Constant) }
 {
@@ -212,10 +178,7 @@ fn fits_constant<D: DialectTables<OpKind = KitOp, Attr = KitAttr, TypeKey = KitT
 }
 
 /// Whether an operation has the format of a conditional branch.
-fn fits_cond_br<D: DialectTables<OpKind = KitOp, Attr = KitAttr, TypeKey = KitType>>(
-    ctx: &Context<D>,
-    op: Ptr<Operation>,
-) -> bool
+fn fits_cond_br(ctx: &Context<Kit>, op: Ptr<Operation>) -> bool
     requires { IsSome (operation_at ctx.now.program op) }
     ensures { OfTree ctx.now.program op (λ u. IsTrue result ↔ FitsKind (world_of ctx.now) u CondBr) }
 {
@@ -227,10 +190,7 @@ fn fits_cond_br<D: DialectTables<OpKind = KitOp, Attr = KitAttr, TypeKey = KitTy
 
 /// Whether an operation has the format of its kind.
 #[inline(always)]
-pub(crate) fn fits_format<D: DialectTables<OpKind = KitOp, Attr = KitAttr, TypeKey = KitType>>(
-    ctx: &Context<D>,
-    op: Ptr<Operation>,
-) -> bool
+pub(crate) fn fits_format(ctx: &Context<Kit>, op: Ptr<Operation>) -> bool
     requires { IsSome (operation_at ctx.now.program op) }
     ensures { OfTree ctx.now.program op (λ u. IsTrue result ↔ FitsKind (world_of ctx.now) u
         (kind_of (world_of ctx.now) u)) }

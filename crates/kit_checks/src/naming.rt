@@ -15,8 +15,7 @@ use crate::rule::Rule;
 use crate::walk_order::WalkOrder;
 use ir_context::{Context, OperandCalls};
 use ir_program::{BasicBlock, DefiningEntity, Operation, Program, Ptr, Value};
-use ir_types::DialectTables;
-use kit_ops::{KitAttr, KitOp, KitType};
+use kit::Kit;
 use std::alloc::{AllocError, Global};
 
 /// Where an operation is: its block, and the first block of the region.
@@ -127,9 +126,12 @@ fn names_visible<O, B>(
 
 /// Whether each operand of an operation inside the root is a value that it may name; the root has to have none.
 #[inline(always)]
-pub(crate) fn operands_are_visible<
-    D: DialectTables<OpKind = KitOp, Attr = KitAttr, TypeKey = KitType>,
->(ctx: &Context<D>, root: Ptr<Operation>, order: &WalkOrder, op: Ptr<Operation>) -> bool
+pub(crate) fn operands_are_visible(
+    ctx: &Context<Kit>,
+    root: Ptr<Operation>,
+    order: &WalkOrder,
+    op: Ptr<Operation>,
+) -> bool
     requires inside { StandsInside ctx.now.program (OperationNode root) (OperationNode op) }
     requires op { IsSome (operation_at ctx.now.program op) }
     requires order { AreInWalkOrder ctx.now.program root order.now }

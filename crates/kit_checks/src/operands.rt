@@ -12,8 +12,8 @@ use crate::types::{TypeTest, results_pass, type_passes};
 use ir_context::{Context, OperandCalls, ResultCalls};
 use ir_names::TypeHandle;
 use ir_program::{Operation, Ptr};
-use ir_types::DialectTables;
-use kit_ops::{KitAttr, KitOp, KitType};
+use kit::Kit;
+use kit_ops::KitOp;
 
 /// Whether operations of this kind are arithmetic.
 fn is_arithmetic(kind: KitOp) -> bool
@@ -46,11 +46,7 @@ fn is_cond_br(kind: KitOp) -> bool
 }
 
 /// The type of the operand at an index.
-pub(crate) fn operand_type<D: DialectTables<OpKind = KitOp, Attr = KitAttr, TypeKey = KitType>>(
-    ctx: &Context<D>,
-    op: Ptr<Operation>,
-    index: usize,
-) -> TypeHandle
+pub(crate) fn operand_type(ctx: &Context<Kit>, op: Ptr<Operation>, index: usize) -> TypeHandle
     requires { index < length (operands_at ctx.now.program op) }
     ensures { option_map (type_at ctx.now.program) (slice_get (operands_at ctx.now.program op) index) ≡ Some
         (Some result) }
@@ -60,11 +56,7 @@ pub(crate) fn operand_type<D: DialectTables<OpKind = KitOp, Attr = KitAttr, Type
 }
 
 /// Whether all operands have a type.
-fn operands_have<D: DialectTables<OpKind = KitOp, Attr = KitAttr, TypeKey = KitType>>(
-    ctx: &Context<D>,
-    op: Ptr<Operation>,
-    ty: TypeHandle,
-) -> bool
+fn operands_have(ctx: &Context<Kit>, op: Ptr<Operation>, ty: TypeHandle) -> bool
     requires { IsSome (operation_at ctx.now.program op) }
     ensures { OfTree ctx.now.program op (λ u. IsTrue result ↔ Every (λ o. o ≡ Some ty)
         (map (world_of ctx.now).value_type u.head.operands)) }
@@ -78,9 +70,7 @@ fn operands_have<D: DialectTables<OpKind = KitOp, Attr = KitAttr, TypeKey = KitT
 }
 
 /// Whether all operands have one type.
-pub(crate) fn has_equal_operands<
-    D: DialectTables<OpKind = KitOp, Attr = KitAttr, TypeKey = KitType>,
->(ctx: &Context<D>, op: Ptr<Operation>) -> bool
+pub(crate) fn has_equal_operands(ctx: &Context<Kit>, op: Ptr<Operation>) -> bool
     requires { IsSome (operation_at ctx.now.program op) }
     ensures { OfTree ctx.now.program op (λ u. IsTrue result ↔ AreAllEqual
         (map (world_of ctx.now).value_type u.head.operands)) }
@@ -93,10 +83,7 @@ pub(crate) fn has_equal_operands<
 }
 
 /// Whether all results have one type.
-fn has_equal_results<D: DialectTables<OpKind = KitOp, Attr = KitAttr, TypeKey = KitType>>(
-    ctx: &Context<D>,
-    op: Ptr<Operation>,
-) -> bool
+fn has_equal_results(ctx: &Context<Kit>, op: Ptr<Operation>) -> bool
     requires { IsSome (operation_at ctx.now.program op) }
     ensures { OfTree ctx.now.program op (λ u. IsTrue result ↔ AreAllEqual (types_of u.head.results)) }
 {
@@ -108,10 +95,7 @@ fn has_equal_results<D: DialectTables<OpKind = KitOp, Attr = KitAttr, TypeKey = 
 
 /// Whether all operands and all results have one type.
 #[inline(always)]
-pub(crate) fn has_one_type<D: DialectTables<OpKind = KitOp, Attr = KitAttr, TypeKey = KitType>>(
-    ctx: &Context<D>,
-    op: Ptr<Operation>,
-) -> bool
+pub(crate) fn has_one_type(ctx: &Context<Kit>, op: Ptr<Operation>) -> bool
     requires { IsSome (operation_at ctx.now.program op) }
     ensures { OfTree ctx.now.program op (λ u. IsTrue result ↔ AreAllEqual
         (map (world_of ctx.now).value_type u.head.operands ++ map Some (types_of u.head.results))) }
@@ -127,10 +111,7 @@ pub(crate) fn has_one_type<D: DialectTables<OpKind = KitOp, Attr = KitAttr, Type
 }
 
 /// Whether the first operand, if there is one, is one bit without a sign.
-pub(crate) fn has_condition<D: DialectTables<OpKind = KitOp, Attr = KitAttr, TypeKey = KitType>>(
-    ctx: &Context<D>,
-    op: Ptr<Operation>,
-) -> bool
+pub(crate) fn has_condition(ctx: &Context<Kit>, op: Ptr<Operation>) -> bool
     requires { IsSome (operation_at ctx.now.program op) }
     ensures { OfTree ctx.now.program op (λ u. IsTrue result ↔ HasCondition (world_of ctx.now) u) }
 {
@@ -141,10 +122,7 @@ pub(crate) fn has_condition<D: DialectTables<OpKind = KitOp, Attr = KitAttr, Typ
 }
 
 /// Whether all operands have one type, and all results are one bit without a sign.
-fn compares_bits<D: DialectTables<OpKind = KitOp, Attr = KitAttr, TypeKey = KitType>>(
-    ctx: &Context<D>,
-    op: Ptr<Operation>,
-) -> bool
+fn compares_bits(ctx: &Context<Kit>, op: Ptr<Operation>) -> bool
     requires { IsSome (operation_at ctx.now.program op) }
     ensures { OfTree ctx.now.program op (λ u. IsTrue result ↔ AreAllEqual
         (map (world_of ctx.now).value_type u.head.operands)
@@ -158,10 +136,7 @@ fn compares_bits<D: DialectTables<OpKind = KitOp, Attr = KitAttr, TypeKey = KitT
 
 /// Whether the types of an operation's operands and results belong together, as its kind asks.
 #[inline(always)]
-pub(crate) fn types_agree<D: DialectTables<OpKind = KitOp, Attr = KitAttr, TypeKey = KitType>>(
-    ctx: &Context<D>,
-    op: Ptr<Operation>,
-) -> bool
+pub(crate) fn types_agree(ctx: &Context<Kit>, op: Ptr<Operation>) -> bool
     requires { IsSome (operation_at ctx.now.program op) }
     ensures { OfTree ctx.now.program op (λ u. IsTrue result ↔ HasKindTypes (world_of ctx.now) u
         (kind_of (world_of ctx.now) u)) }

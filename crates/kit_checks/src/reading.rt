@@ -11,14 +11,11 @@ ghost use Rattle.ir_names.specs.Identifier.{text_of};
 use ir_context::{Context, OperationCalls};
 use ir_names::{Identifier, Signedness, TypeHandle};
 use ir_program::{Operation, Ptr};
-use ir_types::DialectTables;
+use kit::Kit;
 use kit_ops::{FunctionType, IntegerAttr, IntegerType, KitAttr, KitOp, KitType};
 
 /// The kind of an operation.
-pub(crate) fn kind_of<D: DialectTables<OpKind = KitOp, Attr = KitAttr, TypeKey = KitType>>(
-    ctx: &Context<D>,
-    op: Ptr<Operation>,
-) -> KitOp
+pub(crate) fn kind_of(ctx: &Context<Kit>, op: Ptr<Operation>) -> KitOp
     requires { IsSome (operation_at ctx.now.program op) }
     ensures { OfTree ctx.now.program op (λ u. kind_of (world_of ctx.now) u ≡ result) }
 {
@@ -26,8 +23,8 @@ pub(crate) fn kind_of<D: DialectTables<OpKind = KitOp, Attr = KitAttr, TypeKey =
 }
 
 /// The attribute of an operation under a key.
-pub(crate) fn attribute_of<'a, D: DialectTables<OpKind = KitOp, Attr = KitAttr, TypeKey = KitType>>(
-    ctx: &'a Context<D>,
+pub(crate) fn attribute_of<'a>(
+    ctx: &'a Context<Kit>,
     op: Ptr<Operation>,
     key: &str,
 ) -> Option<&'a KitAttr>
@@ -38,10 +35,7 @@ pub(crate) fn attribute_of<'a, D: DialectTables<OpKind = KitOp, Attr = KitAttr, 
 }
 
 /// The integer type that a type is, if it is one.
-pub(crate) fn integer_type<D: DialectTables<OpKind = KitOp, Attr = KitAttr, TypeKey = KitType>>(
-    ctx: &Context<D>,
-    ty: TypeHandle,
-) -> Option<IntegerType>
+pub(crate) fn integer_type(ctx: &Context<Kit>, ty: TypeHandle) -> Option<IntegerType>
     ensures { integer_type (world_of ctx.now) ty ≡ result }
 {
     match ctx.type_key(ty) {
@@ -51,10 +45,7 @@ pub(crate) fn integer_type<D: DialectTables<OpKind = KitOp, Attr = KitAttr, Type
 }
 
 /// The function type that a type is, if it is one.
-pub fn function_type<'a, D: DialectTables<OpKind = KitOp, Attr = KitAttr, TypeKey = KitType>>(
-    ctx: &'a Context<D>,
-    ty: TypeHandle,
-) -> Option<&'a FunctionType>
+pub fn function_type<'a>(ctx: &'a Context<Kit>, ty: TypeHandle) -> Option<&'a FunctionType>
     ensures { function_type (world_of ctx.now) ty ≡ option_copied result }
 {
     match ctx.type_key(ty) {
@@ -64,10 +55,7 @@ pub fn function_type<'a, D: DialectTables<OpKind = KitOp, Attr = KitAttr, TypeKe
 }
 
 /// Whether values can have a type: an integer type of 1 to 64 bits.
-pub(crate) fn is_value_type<D: DialectTables<OpKind = KitOp, Attr = KitAttr, TypeKey = KitType>>(
-    ctx: &Context<D>,
-    ty: TypeHandle,
-) -> bool
+pub(crate) fn is_value_type(ctx: &Context<Kit>, ty: TypeHandle) -> bool
     ensures { IsTrue result ↔ IsValueType (world_of ctx.now) ty }
 {
     match integer_type(ctx, ty) {
@@ -77,10 +65,7 @@ pub(crate) fn is_value_type<D: DialectTables<OpKind = KitOp, Attr = KitAttr, Typ
 }
 
 /// Whether a type is an integer type.
-pub(crate) fn is_integer<D: DialectTables<OpKind = KitOp, Attr = KitAttr, TypeKey = KitType>>(
-    ctx: &Context<D>,
-    ty: TypeHandle,
-) -> bool
+pub(crate) fn is_integer(ctx: &Context<Kit>, ty: TypeHandle) -> bool
     ensures { IsTrue result ↔ IsInteger (world_of ctx.now) ty }
 {
     match integer_type(ctx, ty) {
@@ -99,10 +84,7 @@ fn is_signless(signedness: Signedness) -> bool
 }
 
 /// Whether a type is the signless integer type of width 1.
-pub(crate) fn is_bit<D: DialectTables<OpKind = KitOp, Attr = KitAttr, TypeKey = KitType>>(
-    ctx: &Context<D>,
-    ty: TypeHandle,
-) -> bool
+pub(crate) fn is_bit(ctx: &Context<Kit>, ty: TypeHandle) -> bool
     ensures { IsTrue result ↔ IsBit (world_of ctx.now) ty }
 {
     match integer_type(ctx, ty) {
@@ -162,11 +144,7 @@ pub(crate) fn is_terminator(kind: KitOp) -> bool
 }
 
 /// The type under a key of an operation's attributes.
-pub(crate) fn type_under<D: DialectTables<OpKind = KitOp, Attr = KitAttr, TypeKey = KitType>>(
-    ctx: &Context<D>,
-    op: Ptr<Operation>,
-    key: &str,
-) -> Option<TypeHandle>
+pub(crate) fn type_under(ctx: &Context<Kit>, op: Ptr<Operation>, key: &str) -> Option<TypeHandle>
     requires { IsSome (operation_at ctx.now.program op) }
     ensures { OfTree ctx.now.program op (λ u. option_and_then type_in (attribute_of (world_of ctx.now) u key.now)
         ≡ result) }
@@ -178,10 +156,11 @@ pub(crate) fn type_under<D: DialectTables<OpKind = KitOp, Attr = KitAttr, TypeKe
 }
 
 /// The identifier under a key of an operation's attributes.
-pub(crate) fn identifier_under<
-    'a,
-    D: DialectTables<OpKind = KitOp, Attr = KitAttr, TypeKey = KitType>,
->(ctx: &'a Context<D>, op: Ptr<Operation>, key: &str) -> Option<&'a Identifier>
+pub(crate) fn identifier_under<'a>(
+    ctx: &'a Context<Kit>,
+    op: Ptr<Operation>,
+    key: &str,
+) -> Option<&'a Identifier>
     requires { IsSome (operation_at ctx.now.program op) }
     ensures { OfTree ctx.now.program op (λ u. option_and_then identifier_in
         (attribute_of (world_of ctx.now) u key.now) ≡ option_map (λ id. text_of id.now) result) }
@@ -193,8 +172,8 @@ pub(crate) fn identifier_under<
 }
 
 /// The integer under a key of an operation's attributes.
-pub(crate) fn integer_under<D: DialectTables<OpKind = KitOp, Attr = KitAttr, TypeKey = KitType>>(
-    ctx: &Context<D>,
+pub(crate) fn integer_under(
+    ctx: &Context<Kit>,
     op: Ptr<Operation>,
     key: &str,
 ) -> Option<IntegerAttr>
@@ -209,8 +188,8 @@ pub(crate) fn integer_under<D: DialectTables<OpKind = KitOp, Attr = KitAttr, Typ
 }
 
 /// The sizes of segments under a key of an operation's attributes.
-pub(crate) fn sizes_under<'a, D: DialectTables<OpKind = KitOp, Attr = KitAttr, TypeKey = KitType>>(
-    ctx: &'a Context<D>,
+pub(crate) fn sizes_under<'a>(
+    ctx: &'a Context<Kit>,
     op: Ptr<Operation>,
     key: &str,
 ) -> Option<&'a Vec<u32>>

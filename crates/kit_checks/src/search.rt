@@ -24,13 +24,12 @@ use ir_context::Context;
 use ir_names::Place;
 use ir_program::{IRNode, Operation, Ptr};
 use ir_trees::know_tree;
-use ir_types::DialectTables;
-use kit_ops::{KitAttr, KitOp, KitType};
+use kit::Kit;
 use std::alloc::{AllocError, Global};
 
 /// An entity inside the root, if it is an operation that breaks a rule.
-fn broken_at<D: DialectTables<OpKind = KitOp, Attr = KitAttr, TypeKey = KitType>>(
-    ctx: &Context<D>,
+fn broken_at(
+    ctx: &Context<Kit>,
     root: Ptr<Operation>,
     rule: Rule,
     order: &WalkOrder,
@@ -54,8 +53,8 @@ fn broken_at<D: DialectTables<OpKind = KitOp, Attr = KitAttr, TypeKey = KitType>
 }
 
 /// The first operation inside the root, in walk order, that breaks a rule.
-fn first_operation<D: DialectTables<OpKind = KitOp, Attr = KitAttr, TypeKey = KitType>>(
-    ctx: &Context<D>,
+fn first_operation(
+    ctx: &Context<Kit>,
     root: Ptr<Operation>,
     rule: Rule,
     order: &WalkOrder,
@@ -80,9 +79,9 @@ fn first_operation<D: DialectTables<OpKind = KitOp, Attr = KitAttr, TypeKey = Ki
 ///
 /// # Errors
 /// No memory for the order.
-fn find_operation<D: DialectTables<OpKind = KitOp, Attr = KitAttr, TypeKey = KitType>>(
+fn find_operation(
     alloc: Global,
-    ctx: &Context<D>,
+    ctx: &Context<Kit>,
     root: Ptr<Operation>,
     rule: Rule,
 ) -> Result<Option<Ptr<Operation>>, AllocError>
@@ -100,9 +99,9 @@ fn find_operation<D: DialectTables<OpKind = KitOp, Attr = KitAttr, TypeKey = Kit
 ///
 /// # Errors
 /// `Memory` where no memory is left for the place or, where operands are tested, for the order of operations.
-pub fn first_place<D: DialectTables<OpKind = KitOp, Attr = KitAttr, TypeKey = KitType>>(
+pub fn first_place(
     alloc: Global,
-    ctx: &Context<D>,
+    ctx: &Context<Kit>,
     root: Ptr<Operation>,
     rule: Rule,
 ) -> Result<Option<Place>, RuleFault>
@@ -124,8 +123,8 @@ pub fn first_place<D: DialectTables<OpKind = KitOp, Attr = KitAttr, TypeKey = Ki
 }
 
 /// Whether an operation inside the root keeps all local rules.
-fn keeps_all<D: DialectTables<OpKind = KitOp, Attr = KitAttr, TypeKey = KitType>>(
-    ctx: &Context<D>,
+fn keeps_all(
+    ctx: &Context<Kit>,
     root: Ptr<Operation>,
     order: &WalkOrder,
     op: Ptr<Operation>,
@@ -150,12 +149,7 @@ fn keeps_all<D: DialectTables<OpKind = KitOp, Attr = KitAttr, TypeKey = KitType>
 }
 
 /// Whether an entity inside the root is no operation, or is one that keeps all local rules.
-fn keeps_all_at<D: DialectTables<OpKind = KitOp, Attr = KitAttr, TypeKey = KitType>>(
-    ctx: &Context<D>,
-    root: Ptr<Operation>,
-    order: &WalkOrder,
-    node: IRNode,
-) -> bool
+fn keeps_all_at(ctx: &Context<Kit>, root: Ptr<Operation>, order: &WalkOrder, node: IRNode) -> bool
     requires order { AreInWalkOrder ctx.now.program root order.now }
     requires inside { StandsInside ctx.now.program (OperationNode root) node }
     requires live { IsLiveNode ctx.now.program node }
@@ -169,11 +163,7 @@ fn keeps_all_at<D: DialectTables<OpKind = KitOp, Attr = KitAttr, TypeKey = KitTy
 
 /// Whether all operations inside the root keep all local rules, found with the order of operations. Each operation is
 /// tested by all rules before the next one is.
-fn keeps_all_inside<D: DialectTables<OpKind = KitOp, Attr = KitAttr, TypeKey = KitType>>(
-    ctx: &Context<D>,
-    root: Ptr<Operation>,
-    order: &WalkOrder,
-) -> bool
+fn keeps_all_inside(ctx: &Context<Kit>, root: Ptr<Operation>, order: &WalkOrder) -> bool
     requires order { AreInWalkOrder ctx.now.program root order.now }
     requires root { IsSome (operation_at ctx.now.program root) }
     ensures { IsTrue result ↔ KeepsLocalRules (world_of ctx.now) ctx.now.program root }
@@ -194,9 +184,9 @@ fn keeps_all_inside<D: DialectTables<OpKind = KitOp, Attr = KitAttr, TypeKey = K
 ///
 /// # Errors
 /// No memory for the order of operations.
-pub fn keeps_local_rules<D: DialectTables<OpKind = KitOp, Attr = KitAttr, TypeKey = KitType>>(
+pub fn keeps_local_rules(
     alloc: Global,
-    ctx: &Context<D>,
+    ctx: &Context<Kit>,
     root: Ptr<Operation>,
 ) -> Result<bool, AllocError>
     requires { IsSome (operation_at ctx.now.program root) }

@@ -15,14 +15,11 @@ use crate::types::{TypeTest, argument_count, argument_type, type_passes};
 use ir_context::{Context, OperandCalls};
 use ir_names::TypeHandle;
 use ir_program::{BasicBlock, Operation, Program, Ptr};
-use ir_types::DialectTables;
-use kit_ops::{FunctionType, KitAttr, KitOp, KitType, keys};
+use kit::Kit;
+use kit_ops::{FunctionType, KitOp, keys};
 
 /// The function type that an operation says it has.
-fn signature<'a, D: DialectTables<OpKind = KitOp, Attr = KitAttr, TypeKey = KitType>>(
-    ctx: &'a Context<D>,
-    op: Ptr<Operation>,
-) -> Option<&'a FunctionType>
+fn signature<'a>(ctx: &'a Context<Kit>, op: Ptr<Operation>) -> Option<&'a FunctionType>
     requires { IsSome (operation_at ctx.now.program op) }
     ensures { OfTree ctx.now.program op (λ u. signature (world_of ctx.now) u ≡ option_copied result) }
 {
@@ -33,10 +30,7 @@ fn signature<'a, D: DialectTables<OpKind = KitOp, Attr = KitAttr, TypeKey = KitT
 }
 
 /// Whether all types are integer types.
-fn are_integers<D: DialectTables<OpKind = KitOp, Attr = KitAttr, TypeKey = KitType>>(
-    ctx: &Context<D>,
-    types: &[TypeHandle],
-) -> bool
+fn are_integers(ctx: &Context<Kit>, types: &[TypeHandle]) -> bool
     ensures { IsTrue result ↔ Every (IsInteger (world_of ctx.now)) types.now }
 {
     for ty in types {
@@ -48,11 +42,7 @@ fn are_integers<D: DialectTables<OpKind = KitOp, Attr = KitAttr, TypeKey = KitTy
 }
 
 /// Whether the arguments of a block have these types, in number and order.
-fn arguments_are<D: DialectTables<OpKind = KitOp, Attr = KitAttr, TypeKey = KitType>>(
-    ctx: &Context<D>,
-    block: Ptr<BasicBlock>,
-    types: &[TypeHandle],
-) -> bool
+fn arguments_are(ctx: &Context<Kit>, block: Ptr<BasicBlock>, types: &[TypeHandle]) -> bool
     requires { IsSome (block_at ctx.now.program block) }
     ensures { OfBody ctx.now.program block (λ b. IsTrue result ↔ (types_of b.label.arguments ≡ types.now)) }
 {
@@ -68,11 +58,7 @@ fn arguments_are<D: DialectTables<OpKind = KitOp, Attr = KitAttr, TypeKey = KitT
 }
 
 /// Whether the operands of an operation have these types, in number and order.
-pub fn operands_are<D: DialectTables<OpKind = KitOp, Attr = KitAttr, TypeKey = KitType>>(
-    ctx: &Context<D>,
-    op: Ptr<Operation>,
-    types: &[TypeHandle],
-) -> bool
+pub fn operands_are(ctx: &Context<Kit>, op: Ptr<Operation>, types: &[TypeHandle]) -> bool
     requires { IsSome (operation_at ctx.now.program op) }
     ensures { OfTree ctx.now.program op (λ u. IsTrue result ↔ HaveTypes (world_of ctx.now) u.head.operands types.now) }
 {
@@ -100,11 +86,7 @@ fn entry_of<O, B>(program: &Program<O, B>, op: Ptr<Operation>) -> Option<Ptr<Bas
 }
 
 /// Whether an operation has an entry, whose arguments have these types.
-fn takes_inputs<D: DialectTables<OpKind = KitOp, Attr = KitAttr, TypeKey = KitType>>(
-    ctx: &Context<D>,
-    op: Ptr<Operation>,
-    inputs: &[TypeHandle],
-) -> bool
+fn takes_inputs(ctx: &Context<Kit>, op: Ptr<Operation>, inputs: &[TypeHandle]) -> bool
     requires { IsSome (operation_at ctx.now.program op) }
     ensures { OfTree ctx.now.program op (λ u. IsTrue result ↔ TakesInputs u inputs.now) }
 {
@@ -115,10 +97,7 @@ fn takes_inputs<D: DialectTables<OpKind = KitOp, Attr = KitAttr, TypeKey = KitTy
 }
 
 /// Whether an operation has a function type over integers, and an entry whose arguments have its input types.
-fn has_function_body<D: DialectTables<OpKind = KitOp, Attr = KitAttr, TypeKey = KitType>>(
-    ctx: &Context<D>,
-    op: Ptr<Operation>,
-) -> bool
+fn has_function_body(ctx: &Context<Kit>, op: Ptr<Operation>) -> bool
     requires { IsSome (operation_at ctx.now.program op) }
     ensures { OfTree ctx.now.program op (λ u. IsTrue result ↔ HasFunctionBody (world_of ctx.now) u) }
 {
@@ -137,9 +116,7 @@ fn has_function_body<D: DialectTables<OpKind = KitOp, Attr = KitAttr, TypeKey = 
 }
 
 /// Whether a function has a function type over integers, and an entry whose arguments have its input types.
-pub(crate) fn function_has_type<
-    D: DialectTables<OpKind = KitOp, Attr = KitAttr, TypeKey = KitType>,
->(ctx: &Context<D>, op: Ptr<Operation>) -> bool
+pub(crate) fn function_has_type(ctx: &Context<Kit>, op: Ptr<Operation>) -> bool
     requires { IsSome (operation_at ctx.now.program op) }
     ensures { OfTree ctx.now.program op (λ u. IsTrue result ↔ IsTypedFunction (world_of ctx.now) u) }
 {
@@ -160,8 +137,8 @@ fn is_return(kind: KitOp) -> bool
 }
 
 /// The function inside the root that an operation is in.
-fn function_around<D: DialectTables<OpKind = KitOp, Attr = KitAttr, TypeKey = KitType>>(
-    ctx: &Context<D>,
+fn function_around(
+    ctx: &Context<Kit>,
     root: Ptr<Operation>,
     op: Ptr<Operation>,
 ) -> Option<Ptr<Operation>>
@@ -177,11 +154,7 @@ fn function_around<D: DialectTables<OpKind = KitOp, Attr = KitAttr, TypeKey = Ki
 }
 
 /// Whether the operands of an operation have the result types of a function, if that has a function type.
-fn returns_to<D: DialectTables<OpKind = KitOp, Attr = KitAttr, TypeKey = KitType>>(
-    ctx: &Context<D>,
-    op: Ptr<Operation>,
-    function: Ptr<Operation>,
-) -> bool
+fn returns_to(ctx: &Context<Kit>, op: Ptr<Operation>, function: Ptr<Operation>) -> bool
     requires op { IsSome (operation_at ctx.now.program op) }
     requires function { IsSome (operation_at ctx.now.program function) }
     ensures { OfTrees ctx.now.program op function (λ u f. IsTrue result ↔ ReturnsTo (world_of ctx.now) u f) }
@@ -193,11 +166,7 @@ fn returns_to<D: DialectTables<OpKind = KitOp, Attr = KitAttr, TypeKey = KitType
 }
 
 /// Whether an operation, if it returns from a function, has operands of the function's result types.
-pub(crate) fn returns_fit<D: DialectTables<OpKind = KitOp, Attr = KitAttr, TypeKey = KitType>>(
-    ctx: &Context<D>,
-    root: Ptr<Operation>,
-    op: Ptr<Operation>,
-) -> bool
+pub(crate) fn returns_fit(ctx: &Context<Kit>, root: Ptr<Operation>, op: Ptr<Operation>) -> bool
     requires { IsSome (operation_at ctx.now.program op) }
     ensures { OfSite ctx.now.program root op (λ s. IsTrue result ↔ ReturnsFit (world_of ctx.now) s) }
 {

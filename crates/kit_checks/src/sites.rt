@@ -8,12 +8,11 @@ ghost use Rattle.kit_ops.specs.declared.kinds.KitOp.TheVariants.{Module, Func};
 use crate::reading::{is_function, is_module, kind_of};
 use ir_context::{Context, OperationCalls};
 use ir_program::{Operation, Ptr};
-use ir_types::DialectTables;
-use kit_ops::{KitAttr, KitOp, KitType};
+use kit::Kit;
 
 /// The operation that owns the region that an operation is in; none for the root.
-pub(crate) fn owner_of<D: DialectTables<OpKind = KitOp, Attr = KitAttr, TypeKey = KitType>>(
-    ctx: &Context<D>,
+pub(crate) fn owner_of(
+    ctx: &Context<Kit>,
     root: Ptr<Operation>,
     op: Ptr<Operation>,
 ) -> Option<Ptr<Operation>>
@@ -28,11 +27,7 @@ pub(crate) fn owner_of<D: DialectTables<OpKind = KitOp, Attr = KitAttr, TypeKey 
 }
 
 /// Whether an operation is in a module that is inside the root.
-pub fn is_in_module<D: DialectTables<OpKind = KitOp, Attr = KitAttr, TypeKey = KitType>>(
-    ctx: &Context<D>,
-    root: Ptr<Operation>,
-    op: Ptr<Operation>,
-) -> bool
+pub fn is_in_module(ctx: &Context<Kit>, root: Ptr<Operation>, op: Ptr<Operation>) -> bool
     requires { IsSome (operation_at ctx.now.program op) }
     ensures { OfSite ctx.now.program root op (λ s. IsTrue result ↔ IsInKind (world_of ctx.now) s Module) }
 {
@@ -43,11 +38,7 @@ pub fn is_in_module<D: DialectTables<OpKind = KitOp, Attr = KitAttr, TypeKey = K
 }
 
 /// Whether an operation is in a function that is inside the root.
-pub(crate) fn is_in_function<D: DialectTables<OpKind = KitOp, Attr = KitAttr, TypeKey = KitType>>(
-    ctx: &Context<D>,
-    root: Ptr<Operation>,
-    op: Ptr<Operation>,
-) -> bool
+pub(crate) fn is_in_function(ctx: &Context<Kit>, root: Ptr<Operation>, op: Ptr<Operation>) -> bool
     requires { IsSome (operation_at ctx.now.program op) }
     ensures { OfSite ctx.now.program root op (λ s. IsTrue result ↔ IsInKind (world_of ctx.now) s Func) }
 {

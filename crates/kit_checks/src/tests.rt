@@ -30,15 +30,10 @@ use crate::types::{TypeTest, results_pass};
 use crate::walk_order::WalkOrder;
 use ir_context::{Context, OperationCalls, OperationLists, TypeTable, TypedProgram};
 use ir_program::{Operation, Ptr};
-use ir_types::DialectTables;
-use kit_ops::{KitAttr, KitOp, KitType};
+use kit::Kit;
 
 /// Whether an operation is a module if it is the root.
-pub(crate) fn root_is_module<D: DialectTables<OpKind = KitOp, Attr = KitAttr, TypeKey = KitType>>(
-    ctx: &Context<D>,
-    root: Ptr<Operation>,
-    op: Ptr<Operation>,
-) -> bool
+pub(crate) fn root_is_module(ctx: &Context<Kit>, root: Ptr<Operation>, op: Ptr<Operation>) -> bool
     requires { IsSome (operation_at ctx.now.program op) }
     ensures { OfSite ctx.now.program root op (λ s. IsTrue result ↔ RootIsModule (world_of ctx.now) s) }
 {
@@ -49,10 +44,7 @@ pub(crate) fn root_is_module<D: DialectTables<OpKind = KitOp, Attr = KitAttr, Ty
 }
 
 /// Whether an operation is of a kind that stands in functions, and has no region.
-fn is_plain_instruction<D: DialectTables<OpKind = KitOp, Attr = KitAttr, TypeKey = KitType>>(
-    ctx: &Context<D>,
-    op: Ptr<Operation>,
-) -> bool
+fn is_plain_instruction(ctx: &Context<Kit>, op: Ptr<Operation>) -> bool
     requires { IsSome (operation_at ctx.now.program op) }
     ensures { OfTree ctx.now.program op (λ u. IsTrue result ↔ (is_instruction (kind_of (world_of ctx.now) u) ≡ true)
         × (length (region_list u.regions) ≡ 0)) }
@@ -64,11 +56,7 @@ fn is_plain_instruction<D: DialectTables<OpKind = KitOp, Attr = KitAttr, TypeKey
 }
 
 /// Whether an operation may stand where it is if that is in a function.
-pub(crate) fn function_holds<D: DialectTables<OpKind = KitOp, Attr = KitAttr, TypeKey = KitType>>(
-    ctx: &Context<D>,
-    root: Ptr<Operation>,
-    op: Ptr<Operation>,
-) -> bool
+pub(crate) fn function_holds(ctx: &Context<Kit>, root: Ptr<Operation>, op: Ptr<Operation>) -> bool
     requires { IsSome (operation_at ctx.now.program op) }
     ensures { OfSite ctx.now.program root op (λ s. IsTrue result ↔ FunctionHolds (world_of ctx.now) s) }
 {
@@ -80,9 +68,11 @@ pub(crate) fn function_holds<D: DialectTables<OpKind = KitOp, Attr = KitAttr, Ty
 
 /// Whether the results of an operation and the arguments of the blocks in it are integers of 1 to 64 bits.
 #[inline(always)]
-pub(crate) fn values_are_integers<
-    D: DialectTables<OpKind = KitOp, Attr = KitAttr, TypeKey = KitType>,
->(ctx: &Context<D>, _root: Ptr<Operation>, op: Ptr<Operation>) -> bool
+pub(crate) fn values_are_integers(
+    ctx: &Context<Kit>,
+    _root: Ptr<Operation>,
+    op: Ptr<Operation>,
+) -> bool
     requires { IsSome (operation_at ctx.now.program op) }
     ensures { OfSite ctx.now.program _root op (λ s. IsTrue result ↔ ValuesAreIntegers (world_of ctx.now) s) }
 {
@@ -105,11 +95,7 @@ fn is_last<O, B, T: TypeTable>(ctx: &TypedProgram<O, B, T>, op: Ptr<Operation>) 
 }
 
 /// Whether an operation in a function is a terminator exactly if it is the last one of its block.
-fn ends_well<D: DialectTables<OpKind = KitOp, Attr = KitAttr, TypeKey = KitType>>(
-    ctx: &Context<D>,
-    root: Ptr<Operation>,
-    op: Ptr<Operation>,
-) -> bool
+fn ends_well(ctx: &Context<Kit>, root: Ptr<Operation>, op: Ptr<Operation>) -> bool
     requires { IsSome (operation_at ctx.now.program op) }
     ensures { OfSite ctx.now.program root op (λ s. IsTrue result ↔ KeepsBlockEnds (world_of ctx.now) s) }
 {
@@ -123,10 +109,7 @@ fn ends_well<D: DialectTables<OpKind = KitOp, Attr = KitAttr, TypeKey = KitType>
 }
 
 /// Whether no block in an operation is empty, if that is a function.
-fn has_filled_blocks<D: DialectTables<OpKind = KitOp, Attr = KitAttr, TypeKey = KitType>>(
-    ctx: &Context<D>,
-    op: Ptr<Operation>,
-) -> bool
+fn has_filled_blocks(ctx: &Context<Kit>, op: Ptr<Operation>) -> bool
     requires { IsSome (operation_at ctx.now.program op) }
     ensures { OfTree ctx.now.program op (λ u. IsTrue result ↔ HasFilledBlocks (world_of ctx.now) u) }
 {
@@ -138,11 +121,7 @@ fn has_filled_blocks<D: DialectTables<OpKind = KitOp, Attr = KitAttr, TypeKey = 
 
 /// Whether an operation ends its block if it has to, and no other, and each of its blocks has an operation.
 #[inline(always)]
-pub(crate) fn blocks_end<D: DialectTables<OpKind = KitOp, Attr = KitAttr, TypeKey = KitType>>(
-    ctx: &Context<D>,
-    root: Ptr<Operation>,
-    op: Ptr<Operation>,
-) -> bool
+pub(crate) fn blocks_end(ctx: &Context<Kit>, root: Ptr<Operation>, op: Ptr<Operation>) -> bool
     requires { IsSome (operation_at ctx.now.program op) }
     ensures { OfSite ctx.now.program root op (λ s. IsTrue result ↔ BlocksEnd (world_of ctx.now) s) }
 {
@@ -154,9 +133,11 @@ pub(crate) fn blocks_end<D: DialectTables<OpKind = KitOp, Attr = KitAttr, TypeKe
 
 /// Whether an operation isn't a `forward_ref`, and it and the blocks in it have only attributes that they may have.
 #[inline(always)]
-pub(crate) fn attributes_are_known<
-    D: DialectTables<OpKind = KitOp, Attr = KitAttr, TypeKey = KitType>,
->(ctx: &Context<D>, _root: Ptr<Operation>, op: Ptr<Operation>) -> bool
+pub(crate) fn attributes_are_known(
+    ctx: &Context<Kit>,
+    _root: Ptr<Operation>,
+    op: Ptr<Operation>,
+) -> bool
     requires { IsSome (operation_at ctx.now.program op) }
     ensures { OfSite ctx.now.program _root op (λ s. IsTrue result ↔ AttributesAreKnown (world_of ctx.now) s) }
 {
@@ -170,8 +151,8 @@ pub(crate) fn attributes_are_known<
 }
 
 /// Whether an operation inside the root keeps a rule.
-pub(crate) fn keeps<D: DialectTables<OpKind = KitOp, Attr = KitAttr, TypeKey = KitType>>(
-    ctx: &Context<D>,
+pub(crate) fn keeps(
+    ctx: &Context<Kit>,
     root: Ptr<Operation>,
     rule: Rule,
     order: &WalkOrder,

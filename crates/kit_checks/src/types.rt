@@ -10,8 +10,7 @@ use crate::reading::{is_bit, is_value_type};
 use ir_context::{Context, ResultCalls};
 use ir_names::TypeHandle;
 use ir_program::{BasicBlock, Operation, Ptr};
-use ir_types::DialectTables;
-use kit_ops::{KitAttr, KitOp, KitType};
+use kit::Kit;
 
 /// What is asked of a type.
 #[derive(Clone, Copy)]
@@ -25,11 +24,7 @@ pub(crate) enum TypeTest {
 }
 
 /// Whether a type passes a test.
-pub(crate) fn type_passes<D: DialectTables<OpKind = KitOp, Attr = KitAttr, TypeKey = KitType>>(
-    ctx: &Context<D>,
-    test: TypeTest,
-    ty: TypeHandle,
-) -> bool
+pub(crate) fn type_passes(ctx: &Context<Kit>, test: TypeTest, ty: TypeHandle) -> bool
     ensures { IsTrue result ↔ TypePasses (world_of ctx.now) test ty }
 {
     match test {
@@ -40,11 +35,7 @@ pub(crate) fn type_passes<D: DialectTables<OpKind = KitOp, Attr = KitAttr, TypeK
 }
 
 /// Whether the types of all results pass a test.
-pub(crate) fn results_pass<D: DialectTables<OpKind = KitOp, Attr = KitAttr, TypeKey = KitType>>(
-    ctx: &Context<D>,
-    op: Ptr<Operation>,
-    test: TypeTest,
-) -> bool
+pub(crate) fn results_pass(ctx: &Context<Kit>, op: Ptr<Operation>, test: TypeTest) -> bool
     requires { IsSome (operation_at ctx.now.program op) }
     ensures { OfTree ctx.now.program op (λ u. IsTrue result ↔ Every (TypePasses (world_of ctx.now) test)
         (types_of u.head.results)) }
@@ -58,10 +49,7 @@ pub(crate) fn results_pass<D: DialectTables<OpKind = KitOp, Attr = KitAttr, Type
 }
 
 /// How many arguments a block has.
-pub(crate) fn argument_count<D: DialectTables<OpKind = KitOp, Attr = KitAttr, TypeKey = KitType>>(
-    ctx: &Context<D>,
-    block: Ptr<BasicBlock>,
-) -> usize
+pub(crate) fn argument_count(ctx: &Context<Kit>, block: Ptr<BasicBlock>) -> usize
     requires { IsSome (block_at ctx.now.program block) }
     ensures { result ≡ argument_count ctx.now.program block }
 {
@@ -69,11 +57,7 @@ pub(crate) fn argument_count<D: DialectTables<OpKind = KitOp, Attr = KitAttr, Ty
 }
 
 /// The type of the argument of a block at an index.
-pub(crate) fn argument_type<D: DialectTables<OpKind = KitOp, Attr = KitAttr, TypeKey = KitType>>(
-    ctx: &Context<D>,
-    block: Ptr<BasicBlock>,
-    index: usize,
-) -> TypeHandle
+pub(crate) fn argument_type(ctx: &Context<Kit>, block: Ptr<BasicBlock>, index: usize) -> TypeHandle
     requires block { IsSome (block_at ctx.now.program block) }
     requires within { index < argument_count ctx.now.program block }
     ensures { type_in (arguments_at ctx.now.program block) index ≡ Some result }
@@ -82,11 +66,7 @@ pub(crate) fn argument_type<D: DialectTables<OpKind = KitOp, Attr = KitAttr, Typ
 }
 
 /// Whether the types of all arguments of a block pass a test.
-pub(crate) fn arguments_pass<D: DialectTables<OpKind = KitOp, Attr = KitAttr, TypeKey = KitType>>(
-    ctx: &Context<D>,
-    block: Ptr<BasicBlock>,
-    test: TypeTest,
-) -> bool
+pub(crate) fn arguments_pass(ctx: &Context<Kit>, block: Ptr<BasicBlock>, test: TypeTest) -> bool
     requires { IsSome (block_at ctx.now.program block) }
     ensures { OfBody ctx.now.program block (λ b. IsTrue result ↔ Every (TypePasses (world_of ctx.now) test)
         (types_of b.label.arguments)) }

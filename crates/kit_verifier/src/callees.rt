@@ -13,9 +13,9 @@ use indexmap::IndexSet;
 use ir_context::{Context, OperationCalls};
 use ir_names::TypeHandle;
 use ir_program::{IRNode, Operation, Ptr};
-use ir_types::DialectTables;
+use kit::Kit;
 use kit_checks::is_function;
-use kit_ops::{KitAttr, KitOp, KitType, keys};
+use kit_ops::keys;
 use std::alloc::{AllocError, Global};
 
 /// What a call may call: a function by the operation that it is in, its name and its type.
@@ -63,10 +63,7 @@ pub(crate) fn has_callee<'a>(callees: &IndexSet<Callee<'a>>, callee: Callee<'a>)
 }
 
 /// As what an operation can be called, if it is a function that has a name and a type, and is in an operation.
-fn callee_of<'a, D: DialectTables<OpKind = KitOp, Attr = KitAttr, TypeKey = KitType>>(
-    ctx: &'a Context<D>,
-    op: Ptr<Operation>,
-) -> Option<Callee<'a>>
+fn callee_of<'a>(ctx: &'a Context<Kit>, op: Ptr<Operation>) -> Option<Callee<'a>>
     requires { IsSome (operation_at ctx.now.program op) }
     ensures { (q : Callable) → (option_map callable_of result ≡ Some q) ↔
         IsCallable (world_of ctx.now) ctx.now.program op q }
@@ -82,10 +79,11 @@ fn callee_of<'a, D: DialectTables<OpKind = KitOp, Attr = KitAttr, TypeKey = KitT
 }
 
 /// Puts an entity to the functions that can be called, if it is one.
-pub(crate) fn add_callee_at<
-    'a,
-    D: DialectTables<OpKind = KitOp, Attr = KitAttr, TypeKey = KitType>,
->(ctx: &'a Context<D>, callees: &mut IndexSet<Callee<'a>>, node: IRNode) -> Result<(), AllocError>
+pub(crate) fn add_callee_at<'a>(
+    ctx: &'a Context<Kit>,
+    callees: &mut IndexSet<Callee<'a>>,
+    node: IRNode,
+) -> Result<(), AllocError>
     requires { IsLiveNode ctx.now.program node }
     ensures { OnOk result (Gains (callables_of callees.old.keys) (callables_of callees.new.keys)
         (IsCallableAt (world_of ctx.now) ctx.now.program node)) }
@@ -103,12 +101,9 @@ pub(crate) fn add_callee_at<
 ///
 /// # Errors
 /// No memory.
-pub(crate) fn callees_inside<
-    'a,
-    D: DialectTables<OpKind = KitOp, Attr = KitAttr, TypeKey = KitType>,
->(
+pub(crate) fn callees_inside<'a>(
     alloc: Global,
-    ctx: &'a Context<D>,
+    ctx: &'a Context<Kit>,
     root: Ptr<Operation>,
 ) -> Result<IndexSet<Callee<'a>>, AllocError>
     requires { IsSome (operation_at ctx.now.program root) }

@@ -21,8 +21,8 @@ use indexmap::IndexSet;
 use ir_context::Context;
 use ir_program::{IRNode, Operation, Ptr};
 use ir_trees::know_tree;
-use ir_types::DialectTables;
-use kit_ops::{KitAttr, KitOp, KitType, keys};
+use kit::Kit;
+use kit_ops::{KitOp, keys};
 
 /// Whether operations of this kind are calls.
 fn is_call(kind: KitOp) -> bool
@@ -35,8 +35,8 @@ fn is_call(kind: KitOp) -> bool
 }
 
 /// What a call calls: a function of the nearest module that the call is in, by the name and the type that it says.
-fn called_by<'a, D: DialectTables<OpKind = KitOp, Attr = KitAttr, TypeKey = KitType>>(
-    ctx: &'a Context<D>,
+fn called_by<'a>(
+    ctx: &'a Context<Kit>,
     root: Ptr<Operation>,
     op: Ptr<Operation>,
 ) -> Option<Callee<'a>>
@@ -55,8 +55,8 @@ fn called_by<'a, D: DialectTables<OpKind = KitOp, Attr = KitAttr, TypeKey = KitT
 }
 
 /// Whether a call calls a function that is there, and has its type.
-fn calls_function<'a, D: DialectTables<OpKind = KitOp, Attr = KitAttr, TypeKey = KitType>>(
-    ctx: &'a Context<D>,
+fn calls_function<'a>(
+    ctx: &'a Context<Kit>,
     root: Ptr<Operation>,
     callees: &IndexSet<Callee<'a>>,
     op: Ptr<Operation>,
@@ -81,8 +81,8 @@ fn calls_function<'a, D: DialectTables<OpKind = KitOp, Attr = KitAttr, TypeKey =
 }
 
 /// Whether an operation, if it is a call, calls a function that is there, and has its type.
-pub(crate) fn calls_fit<'a, D: DialectTables<OpKind = KitOp, Attr = KitAttr, TypeKey = KitType>>(
-    ctx: &'a Context<D>,
+pub(crate) fn calls_fit<'a>(
+    ctx: &'a Context<Kit>,
     root: Ptr<Operation>,
     callees: &IndexSet<Callee<'a>>,
     op: Ptr<Operation>,
@@ -100,8 +100,8 @@ pub(crate) fn calls_fit<'a, D: DialectTables<OpKind = KitOp, Attr = KitAttr, Typ
 }
 
 /// Whether the rule on calls is kept in the tree that the root stands for, where these are the calls inside the root.
-pub(crate) fn all_fit<'a, D: DialectTables<OpKind = KitOp, Attr = KitAttr, TypeKey = KitType>>(
-    ctx: &'a Context<D>,
+pub(crate) fn all_fit<'a>(
+    ctx: &'a Context<Kit>,
     root: Ptr<Operation>,
     callees: &IndexSet<Callee<'a>>,
     calls: &[Ptr<Operation>],

@@ -15,9 +15,8 @@ use crate::reading::kind_of;
 use indexmap::IndexSet;
 use ir_context::{Context, OperationCalls};
 use ir_program::{Operation, Program, Ptr, Region};
-use ir_types::DialectTables;
+use kit::Kit;
 use kit_checks::{is_in_module, is_module, is_symbol};
-use kit_ops::{KitAttr, KitOp, KitType};
 
 /// Whether a region has one block, and that has no arguments.
 fn has_plain_block<O, B>(program: &Program<O, B>, region: Ptr<Region>) -> bool
@@ -48,10 +47,7 @@ pub(crate) fn has_module_body<O, B>(program: &Program<O, B>, op: Ptr<Operation>)
 }
 
 /// Whether an operation has a module's body if it is a module.
-fn has_body_if_module<D: DialectTables<OpKind = KitOp, Attr = KitAttr, TypeKey = KitType>>(
-    ctx: &Context<D>,
-    op: Ptr<Operation>,
-) -> bool
+fn has_body_if_module(ctx: &Context<Kit>, op: Ptr<Operation>) -> bool
     requires { IsSome (operation_at ctx.now.program op) }
     ensures { OfTree ctx.now.program op (λ u. IsTrue result ↔
         (kind_of (world_of ctx.now) u ≡ Module → HasModuleBody u)) }
@@ -70,8 +66,8 @@ fn is_none_of(operations: &IndexSet<Ptr<Operation>>, op: Ptr<Operation>) -> bool
 }
 
 /// Whether a module may hold an operation: a module or a function, with a name that none before it has.
-fn may_be_held<D: DialectTables<OpKind = KitOp, Attr = KitAttr, TypeKey = KitType>>(
-    ctx: &Context<D>,
+fn may_be_held(
+    ctx: &Context<Kit>,
     root: Ptr<Operation>,
     repeats: &IndexSet<Ptr<Operation>>,
     op: Ptr<Operation>,
@@ -89,8 +85,8 @@ fn may_be_held<D: DialectTables<OpKind = KitOp, Attr = KitAttr, TypeKey = KitTyp
 }
 
 /// Whether an operation has a module's body if it is one, and is what a module may hold if it is in one.
-pub(crate) fn module_holds<D: DialectTables<OpKind = KitOp, Attr = KitAttr, TypeKey = KitType>>(
-    ctx: &Context<D>,
+pub(crate) fn module_holds(
+    ctx: &Context<Kit>,
     root: Ptr<Operation>,
     repeats: &IndexSet<Ptr<Operation>>,
     op: Ptr<Operation>,

@@ -22,8 +22,8 @@ use indexmap::IndexSet;
 use ir_context::Context;
 use ir_program::{IRNode, Operation, Ptr};
 use ir_trees::know_tree;
-use ir_types::DialectTables;
-use kit_ops::{KitAttr, KitOp, KitType};
+use kit::Kit;
+use kit_ops::KitOp;
 use std::alloc::{AllocError, Global};
 
 /// The calls inside a root, and what they can call.
@@ -36,10 +36,7 @@ struct CallsInside<'a> {
 }
 
 /// Whether an operation has a module's body.
-fn has_body<D: DialectTables<OpKind = KitOp, Attr = KitAttr, TypeKey = KitType>>(
-    ctx: &Context<D>,
-    op: Ptr<Operation>,
-) -> bool
+fn has_body(ctx: &Context<Kit>, op: Ptr<Operation>) -> bool
     requires { IsSome (operation_at ctx.now.program op) }
     ensures { IsTrue result ↔ OfTree ctx.now.program op HasModuleBody }
 {
@@ -58,8 +55,8 @@ fn add_call(calls: &mut Vec<Ptr<Operation>>, op: Ptr<Operation>) -> Result<(), A
 
 /// Puts an operation to the functions that can be called or to the calls, if it is one. It answers whether it has a
 /// module's body if it is a module.
-fn gather_operation<'a, D: DialectTables<OpKind = KitOp, Attr = KitAttr, TypeKey = KitType>>(
-    ctx: &'a Context<D>,
+fn gather_operation<'a>(
+    ctx: &'a Context<Kit>,
     callees: &mut IndexSet<Callee<'a>>,
     calls: &mut Vec<Ptr<Operation>>,
     op: Ptr<Operation>,
@@ -87,9 +84,9 @@ fn gather_operation<'a, D: DialectTables<OpKind = KitOp, Attr = KitAttr, TypeKey
 }
 
 /// The same of an entity. It answers whether a module holds what it may, as far as the entity itself says.
-fn gather_at<'a, D: DialectTables<OpKind = KitOp, Attr = KitAttr, TypeKey = KitType>>(
+fn gather_at<'a>(
     alloc: Global,
-    ctx: &'a Context<D>,
+    ctx: &'a Context<Kit>,
     callees: &mut IndexSet<Callee<'a>>,
     calls: &mut Vec<Ptr<Operation>>,
     node: IRNode,
@@ -113,9 +110,9 @@ fn gather_at<'a, D: DialectTables<OpKind = KitOp, Attr = KitAttr, TypeKey = KitT
 ///
 /// # Errors
 /// No memory.
-fn gather<'a, D: DialectTables<OpKind = KitOp, Attr = KitAttr, TypeKey = KitType>>(
+fn gather<'a>(
     alloc: Global,
-    ctx: &'a Context<D>,
+    ctx: &'a Context<Kit>,
     root: Ptr<Operation>,
 ) -> Result<Option<CallsInside<'a>>, AllocError>
     requires { IsSome (operation_at ctx.now.program root) }
@@ -138,9 +135,9 @@ fn gather<'a, D: DialectTables<OpKind = KitOp, Attr = KitAttr, TypeKey = KitType
 ///
 /// # Errors
 /// No memory.
-pub(crate) fn keeps_names<D: DialectTables<OpKind = KitOp, Attr = KitAttr, TypeKey = KitType>>(
+pub(crate) fn keeps_names(
     alloc: Global,
-    ctx: &Context<D>,
+    ctx: &Context<Kit>,
     root: Ptr<Operation>,
 ) -> Result<bool, AllocError>
     requires { IsSome (operation_at ctx.now.program root) }

@@ -7,14 +7,11 @@ ghost use Rattle.kit_verifier.specs.Reading.{kind_at, text_under, type_under};
 use ir_context::{Context, OperationCalls};
 use ir_names::TypeHandle;
 use ir_program::{Operation, Ptr};
-use ir_types::DialectTables;
-use kit_ops::{KitAttr, KitOp, KitType};
+use kit::Kit;
+use kit_ops::{KitAttr, KitOp};
 
 /// The kind of an operation.
-pub(crate) fn kind_of<D: DialectTables<OpKind = KitOp, Attr = KitAttr, TypeKey = KitType>>(
-    ctx: &Context<D>,
-    op: Ptr<Operation>,
-) -> KitOp
+pub(crate) fn kind_of(ctx: &Context<Kit>, op: Ptr<Operation>) -> KitOp
     requires { IsSome (operation_at ctx.now.program op) }
     ensures { kind_at (world_of ctx.now) ctx.now.program op ≡ Some result }
 {
@@ -22,8 +19,8 @@ pub(crate) fn kind_of<D: DialectTables<OpKind = KitOp, Attr = KitAttr, TypeKey =
 }
 
 /// The text of the identifier under a key of an operation's attributes, if there is one.
-pub(crate) fn text_under<'a, D: DialectTables<OpKind = KitOp, Attr = KitAttr, TypeKey = KitType>>(
-    ctx: &'a Context<D>,
+pub(crate) fn text_under<'a>(
+    ctx: &'a Context<Kit>,
     op: Ptr<Operation>,
     key: &str,
 ) -> Option<&'a str>
@@ -37,11 +34,7 @@ pub(crate) fn text_under<'a, D: DialectTables<OpKind = KitOp, Attr = KitAttr, Ty
 }
 
 /// The type under a key of an operation's attributes, if there is one.
-pub(crate) fn type_under<D: DialectTables<OpKind = KitOp, Attr = KitAttr, TypeKey = KitType>>(
-    ctx: &Context<D>,
-    op: Ptr<Operation>,
-    key: &str,
-) -> Option<TypeHandle>
+pub(crate) fn type_under(ctx: &Context<Kit>, op: Ptr<Operation>, key: &str) -> Option<TypeHandle>
     requires { IsSome (operation_at ctx.now.program op) }
     ensures { result ≡ type_under (world_of ctx.now) ctx.now.program key.now op }
 {

@@ -14,8 +14,8 @@ use crate::reading::text_under;
 use indexmap::IndexSet;
 use ir_context::Context;
 use ir_program::{BasicBlock, IRNode, Operation, Ptr};
-use ir_types::DialectTables;
-use kit_ops::{KitAttr, KitOp, KitType, keys};
+use kit::Kit;
+use kit_ops::keys;
 use std::alloc::{AllocError, Global};
 
 /// Puts a text to others. It answers whether it was one of them.
@@ -38,8 +38,8 @@ fn add_operation(
 }
 
 /// Whether an operation has a name that is among these. Its name is put to them.
-pub(crate) fn is_repeat<'a, D: DialectTables<OpKind = KitOp, Attr = KitAttr, TypeKey = KitType>>(
-    ctx: &'a Context<D>,
+pub(crate) fn is_repeat<'a>(
+    ctx: &'a Context<Kit>,
     names: &mut IndexSet<&'a str>,
     op: Ptr<Operation>,
 ) -> Result<bool, AllocError>
@@ -56,8 +56,8 @@ pub(crate) fn is_repeat<'a, D: DialectTables<OpKind = KitOp, Attr = KitAttr, Typ
 }
 
 /// Puts an operation to others if it has a name that is among these. Its name is put to them.
-fn add_if_repeat<'a, D: DialectTables<OpKind = KitOp, Attr = KitAttr, TypeKey = KitType>>(
-    ctx: &'a Context<D>,
+fn add_if_repeat<'a>(
+    ctx: &'a Context<Kit>,
     names: &mut IndexSet<&'a str>,
     repeats: &mut IndexSet<Ptr<Operation>>,
     op: Ptr<Operation>,
@@ -75,9 +75,9 @@ fn add_if_repeat<'a, D: DialectTables<OpKind = KitOp, Attr = KitAttr, TypeKey = 
 }
 
 /// Puts the operations of a block that have the name of an earlier one there to others.
-fn add_repeats<D: DialectTables<OpKind = KitOp, Attr = KitAttr, TypeKey = KitType>>(
+fn add_repeats(
     alloc: Global,
-    ctx: &Context<D>,
+    ctx: &Context<Kit>,
     repeats: &mut IndexSet<Ptr<Operation>>,
     block: Ptr<BasicBlock>,
 ) -> Result<(), AllocError>
@@ -95,9 +95,9 @@ fn add_repeats<D: DialectTables<OpKind = KitOp, Attr = KitAttr, TypeKey = KitTyp
 }
 
 /// The same of an entity, if it is a block.
-fn add_repeats_at<D: DialectTables<OpKind = KitOp, Attr = KitAttr, TypeKey = KitType>>(
+fn add_repeats_at(
     alloc: Global,
-    ctx: &Context<D>,
+    ctx: &Context<Kit>,
     repeats: &mut IndexSet<Ptr<Operation>>,
     node: IRNode,
 ) -> Result<(), AllocError>
@@ -116,9 +116,9 @@ fn add_repeats_at<D: DialectTables<OpKind = KitOp, Attr = KitAttr, TypeKey = Kit
 ///
 /// # Errors
 /// No memory.
-pub(crate) fn repeats_inside<D: DialectTables<OpKind = KitOp, Attr = KitAttr, TypeKey = KitType>>(
+pub(crate) fn repeats_inside(
     alloc: Global,
-    ctx: &Context<D>,
+    ctx: &Context<Kit>,
     root: Ptr<Operation>,
 ) -> Result<IndexSet<Ptr<Operation>>, AllocError>
     requires { IsSome (operation_at ctx.now.program root) }

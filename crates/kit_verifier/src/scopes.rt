@@ -11,15 +11,11 @@ ghost use Rattle.kit_verifier.specs.Scopes.{IsModuleAt, StandsIf, with_outer};
 use crate::reading::kind_of;
 use ir_context::Context;
 use ir_program::{IRNode, Operation, Ptr};
-use ir_types::DialectTables;
+use kit::Kit;
 use kit_checks::is_module;
-use kit_ops::{KitAttr, KitOp, KitType};
 
 /// An entity, if it is an operation that is a module.
-fn module_at<D: DialectTables<OpKind = KitOp, Attr = KitAttr, TypeKey = KitType>>(
-    ctx: &Context<D>,
-    node: IRNode,
-) -> Option<Ptr<Operation>>
+fn module_at(ctx: &Context<Kit>, node: IRNode) -> Option<Ptr<Operation>>
     requires { IsLiveNode ctx.now.program node }
     ensures { IsModuleAt (world_of ctx.now) ctx.now.program node result }
 {
@@ -46,8 +42,8 @@ fn is_operation(node: IRNode, op: Ptr<Operation>) -> bool
 
 /// The first module of an operation and of those that it is in, the nearest first, as far as the root. The time is
 /// linear in how far up it is.
-pub(crate) fn nearest_module<D: DialectTables<OpKind = KitOp, Attr = KitAttr, TypeKey = KitType>>(
-    ctx: &Context<D>,
+pub(crate) fn nearest_module(
+    ctx: &Context<Kit>,
     root: Ptr<Operation>,
     op: Ptr<Operation>,
 ) -> Option<Ptr<Operation>>

@@ -11,14 +11,13 @@ use crate::table::{Table, keeps};
 use ir_context::Context;
 use ir_names::Place;
 use ir_program::{IRNode, Operation, Ptr};
-use ir_types::DialectTables;
+use kit::Kit;
 use kit_checks::place_of;
-use kit_ops::{KitAttr, KitOp, KitType};
 use std::alloc::{AllocError, Global};
 
 /// An entity inside the root, if it is an operation that breaks the rule.
-fn broken_at<'a, D: DialectTables<OpKind = KitOp, Attr = KitAttr, TypeKey = KitType>>(
-    ctx: &'a Context<D>,
+fn broken_at<'a>(
+    ctx: &'a Context<Kit>,
     root: Ptr<Operation>,
     table: &Table<'a>,
     node: IRNode,
@@ -41,8 +40,8 @@ fn broken_at<'a, D: DialectTables<OpKind = KitOp, Attr = KitAttr, TypeKey = KitT
 }
 
 /// The first operation inside the root, in walk order, that breaks the rule.
-fn first_operation<'a, D: DialectTables<OpKind = KitOp, Attr = KitAttr, TypeKey = KitType>>(
-    ctx: &'a Context<D>,
+fn first_operation<'a>(
+    ctx: &'a Context<Kit>,
     root: Ptr<Operation>,
     table: &Table<'a>,
 ) -> Option<Ptr<Operation>>
@@ -64,12 +63,9 @@ fn first_operation<'a, D: DialectTables<OpKind = KitOp, Attr = KitAttr, TypeKey 
 ///
 /// # Errors
 /// No memory for the place.
-pub(crate) fn first_place_by<
-    'a,
-    D: DialectTables<OpKind = KitOp, Attr = KitAttr, TypeKey = KitType>,
->(
+pub(crate) fn first_place_by<'a>(
     alloc: Global,
-    ctx: &'a Context<D>,
+    ctx: &'a Context<Kit>,
     root: Ptr<Operation>,
     table: &Table<'a>,
 ) -> Result<Option<Place>, AllocError>

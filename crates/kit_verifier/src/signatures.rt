@@ -9,9 +9,8 @@ ghost use Rattle.kit_verifier.specs.Callees.{HasSignature};
 use ir_context::{Context, ResultCalls};
 use ir_names::TypeHandle;
 use ir_program::{Operation, Ptr};
-use ir_types::DialectTables;
+use kit::Kit;
 use kit_checks::{function_type, operands_are};
-use kit_ops::{KitAttr, KitOp, KitType};
 
 /// Whether two types are the same.
 fn is_same(a: TypeHandle, b: TypeHandle) -> bool
@@ -21,11 +20,7 @@ fn is_same(a: TypeHandle, b: TypeHandle) -> bool
 }
 
 /// Whether the results of an operation have these types, in number and order.
-fn results_are<D: DialectTables<OpKind = KitOp, Attr = KitAttr, TypeKey = KitType>>(
-    ctx: &Context<D>,
-    op: Ptr<Operation>,
-    types: &[TypeHandle],
-) -> bool
+fn results_are(ctx: &Context<Kit>, op: Ptr<Operation>, types: &[TypeHandle]) -> bool
     requires { IsSome (operation_at ctx.now.program op) }
     ensures { OfTree ctx.now.program op (λ u. IsTrue result ↔ (types_of u.head.results ≡ types.now)) }
 {
@@ -41,11 +36,7 @@ fn results_are<D: DialectTables<OpKind = KitOp, Attr = KitAttr, TypeKey = KitTyp
 }
 
 /// Whether a type is a function type, and the operands and results of an operation have its inputs' and results' types.
-pub(crate) fn has_signature<D: DialectTables<OpKind = KitOp, Attr = KitAttr, TypeKey = KitType>>(
-    ctx: &Context<D>,
-    op: Ptr<Operation>,
-    ty: TypeHandle,
-) -> bool
+pub(crate) fn has_signature(ctx: &Context<Kit>, op: Ptr<Operation>, ty: TypeHandle) -> bool
     requires { IsSome (operation_at ctx.now.program op) }
     ensures { OfTree ctx.now.program op (λ u. IsTrue result ↔ HasSignature (world_of ctx.now) u ty) }
 {

@@ -13,16 +13,12 @@ use crate::repeats::is_repeat;
 use indexmap::IndexSet;
 use ir_context::{BlockCalls, Context};
 use ir_program::{BasicBlock, Operation, Ptr};
-use ir_types::DialectTables;
+use kit::Kit;
 use kit_checks::{is_module, is_symbol};
-use kit_ops::{KitAttr, KitOp, KitType};
 use std::alloc::{AllocError, Global};
 
 /// Whether a block is one of a module.
-fn is_of_module<D: DialectTables<OpKind = KitOp, Attr = KitAttr, TypeKey = KitType>>(
-    ctx: &Context<D>,
-    block: Ptr<BasicBlock>,
-) -> bool
+fn is_of_module(ctx: &Context<Kit>, block: Ptr<BasicBlock>) -> bool
     requires { IsSome (block_at ctx.now.program block) }
     ensures { IsTrue result ↔ IsOfModule (world_of ctx.now) ctx.now.program block }
 {
@@ -33,8 +29,8 @@ fn is_of_module<D: DialectTables<OpKind = KitOp, Attr = KitAttr, TypeKey = KitTy
 }
 
 /// Whether an operation is a module or a function whose name is none of these. Where it is, its name is put to them.
-fn is_new_symbol<'a, D: DialectTables<OpKind = KitOp, Attr = KitAttr, TypeKey = KitType>>(
-    ctx: &'a Context<D>,
+fn is_new_symbol<'a>(
+    ctx: &'a Context<Kit>,
     names: &mut IndexSet<&'a str>,
     op: Ptr<Operation>,
 ) -> Result<bool, AllocError>
@@ -52,9 +48,9 @@ fn is_new_symbol<'a, D: DialectTables<OpKind = KitOp, Attr = KitAttr, TypeKey = 
 }
 
 /// Whether the operations of a block are modules and functions, and none has the name of an earlier one.
-fn are_symbols<D: DialectTables<OpKind = KitOp, Attr = KitAttr, TypeKey = KitType>>(
+fn are_symbols(
     alloc: Global,
-    ctx: &Context<D>,
+    ctx: &Context<Kit>,
     block: Ptr<BasicBlock>,
 ) -> Result<bool, AllocError>
     requires { IsSome (block_at ctx.now.program block) }
@@ -77,9 +73,9 @@ fn are_symbols<D: DialectTables<OpKind = KitOp, Attr = KitAttr, TypeKey = KitTyp
 ///
 /// # Errors
 /// No memory for their names.
-pub(crate) fn holds_symbols<D: DialectTables<OpKind = KitOp, Attr = KitAttr, TypeKey = KitType>>(
+pub(crate) fn holds_symbols(
     alloc: Global,
-    ctx: &Context<D>,
+    ctx: &Context<Kit>,
     block: Ptr<BasicBlock>,
 ) -> Result<bool, AllocError>
     requires { IsSome (block_at ctx.now.program block) }

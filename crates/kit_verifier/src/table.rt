@@ -13,8 +13,7 @@ use crate::modules::module_holds;
 use indexmap::IndexSet;
 use ir_context::Context;
 use ir_program::{Operation, Ptr};
-use ir_types::DialectTables;
-use kit_ops::{KitAttr, KitOp, KitType};
+use kit::Kit;
 
 /// What is known of the names inside a root before a rule is tested there.
 #[derive(Drop)]
@@ -26,8 +25,8 @@ pub(crate) enum Table<'a> {
 }
 
 /// Whether an operation inside the root keeps the rule that the table is for.
-pub(crate) fn keeps<'a, D: DialectTables<OpKind = KitOp, Attr = KitAttr, TypeKey = KitType>>(
-    ctx: &'a Context<D>,
+pub(crate) fn keeps<'a>(
+    ctx: &'a Context<Kit>,
     root: Ptr<Operation>,
     table: &Table<'a>,
     op: Ptr<Operation>,

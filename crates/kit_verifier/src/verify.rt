@@ -16,9 +16,8 @@ use crate::table::Table;
 use ir_context::Context;
 use ir_names::Place;
 use ir_program::{Operation, Ptr};
-use ir_types::DialectTables;
+use kit::Kit;
 use kit_checks::{Rule, RuleFault, first_place, keeps_local_rules};
-use kit_ops::{KitAttr, KitOp, KitType};
 use std::alloc::{AllocError, Global};
 
 /// All rules, in the order of their numbers.
@@ -40,9 +39,9 @@ const RULES: [Rule; 14] = [
 ];
 
 /// The first place where a module in the tree of the root holds what it may not.
-fn first_module_fault<D: DialectTables<OpKind = KitOp, Attr = KitAttr, TypeKey = KitType>>(
+fn first_module_fault(
     alloc: Global,
-    ctx: &Context<D>,
+    ctx: &Context<Kit>,
     root: Ptr<Operation>,
 ) -> Result<Option<Place>, AllocError>
     requires { IsSome (operation_at ctx.now.program root) }
@@ -53,9 +52,9 @@ fn first_module_fault<D: DialectTables<OpKind = KitOp, Attr = KitAttr, TypeKey =
 }
 
 /// The first place where a call in the tree of the root calls no function that is there.
-fn first_call_fault<D: DialectTables<OpKind = KitOp, Attr = KitAttr, TypeKey = KitType>>(
+fn first_call_fault(
     alloc: Global,
-    ctx: &Context<D>,
+    ctx: &Context<Kit>,
     root: Ptr<Operation>,
 ) -> Result<Option<Place>, AllocError>
     requires { IsSome (operation_at ctx.now.program root) }
@@ -66,9 +65,9 @@ fn first_call_fault<D: DialectTables<OpKind = KitOp, Attr = KitAttr, TypeKey = K
 }
 
 /// The first place where a rule is broken that asks for no table of names.
-fn first_local_fault<D: DialectTables<OpKind = KitOp, Attr = KitAttr, TypeKey = KitType>>(
+fn first_local_fault(
     alloc: Global,
-    ctx: &Context<D>,
+    ctx: &Context<Kit>,
     root: Ptr<Operation>,
     rule: Rule,
 ) -> Result<Option<Place>, AllocError>
@@ -86,9 +85,9 @@ fn first_local_fault<D: DialectTables<OpKind = KitOp, Attr = KitAttr, TypeKey = 
 ///
 /// # Errors
 /// No memory to find out.
-pub fn first_broken<D: DialectTables<OpKind = KitOp, Attr = KitAttr, TypeKey = KitType>>(
+pub fn first_broken(
     alloc: Global,
-    ctx: &Context<D>,
+    ctx: &Context<Kit>,
     root: Ptr<Operation>,
     rule: Rule,
 ) -> Result<Option<Place>, AllocError>
@@ -107,9 +106,9 @@ pub fn first_broken<D: DialectTables<OpKind = KitOp, Attr = KitAttr, TypeKey = K
 ///
 /// # Errors
 /// No memory to find out.
-fn keeps_all_rules<D: DialectTables<OpKind = KitOp, Attr = KitAttr, TypeKey = KitType>>(
+fn keeps_all_rules(
     alloc: Global,
-    ctx: &Context<D>,
+    ctx: &Context<Kit>,
     root: Ptr<Operation>,
 ) -> Result<bool, AllocError>
     requires { IsSome (operation_at ctx.now.program root) }
@@ -129,9 +128,9 @@ fn keeps_all_rules<D: DialectTables<OpKind = KitOp, Attr = KitAttr, TypeKey = Ki
 /// # Errors
 /// The rule with the smallest number that is broken anywhere, at the first place where it is; `Memory` where there is
 /// no memory to find out.
-fn test_rules_in_order<D: DialectTables<OpKind = KitOp, Attr = KitAttr, TypeKey = KitType>>(
+fn test_rules_in_order(
     alloc: Global,
-    ctx: &Context<D>,
+    ctx: &Context<Kit>,
     root: Ptr<Operation>,
 ) -> Result<(), RuleFault>
     requires { IsSome (operation_at ctx.now.program root) }
@@ -152,9 +151,9 @@ fn test_rules_in_order<D: DialectTables<OpKind = KitOp, Attr = KitAttr, TypeKey 
 /// # Errors
 /// The rule with the smallest number that is broken anywhere, at the first place where it is; `Memory` where there is
 /// no memory to find out.
-pub fn verify_module<D: DialectTables<OpKind = KitOp, Attr = KitAttr, TypeKey = KitType>>(
+pub fn verify_module(
     alloc: Global,
-    ctx: &Context<D>,
+    ctx: &Context<Kit>,
     root: Ptr<Operation>,
 ) -> Result<(), RuleFault>
     requires { IsSome (operation_at ctx.now.program root) }

@@ -6,4 +6,4 @@ use Rattle.kit_checks.proofs.blocks.blocks_pass.Given as goal
 
 -- those that were seen pass the test
 abbrev pub invariant-loop-region : goal.invariant-loop-region
-invariant-loop-region g l = IsSeen (RegionGood l.ctx.program (BlockPasses (world_of l.ctx) l.test)) (regions_in l.ctx.program l.fn.op) l.region-iterator
+invariant-loop-region l = IsSeen (RegionGood l.ctx.program (BlockPasses (world_of l.ctx) l.test)) (regions_in l.ctx.program l.fn.op) l.region-iterator

@@ -6,4 +6,4 @@ use Rattle.kit_checks.proofs.blocks.region_passes.Given as goal
 
 -- those that were seen pass the test
 abbrev pub invariant-loop-block : goal.invariant-loop-block
-invariant-loop-block g l = IsSeen (BlockGood l.ctx.program (BlockPasses (world_of l.ctx) l.test)) (blocks_in l.ctx.program l.fn.region) l.block-iterator
+invariant-loop-block l = IsSeen (BlockGood l.ctx.program (BlockPasses (world_of l.ctx) l.test)) (blocks_in l.ctx.program l.fn.region) l.block-iterator

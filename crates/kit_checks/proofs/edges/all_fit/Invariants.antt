@@ -9,4 +9,4 @@ use Rattle.kit_checks.proofs.edges.all_fit.Given as goal
 
 -- the operands fit the blocks that were seen
 abbrev pub invariant-loop-index : goal.invariant-loop-index
-invariant-loop-index g l = EachBelow (λ (edge : ℕ) (b : Ptr BasicBlock). FitBlockArguments (world_of l.ctx) l.ctx.program (operands_at l.ctx.program l.op) b) (successors_at l.ctx.program l.op) l.index
+invariant-loop-index l = EachBelow (λ (edge : ℕ) (b : Ptr BasicBlock). FitBlockArguments (world_of l.ctx) l.ctx.program (operands_at l.ctx.program l.op) b) (successors_at l.ctx.program l.op) l.index

@@ -9,7 +9,7 @@ use Rattle.kit_checks.proofs.Handles.{same_yes, not_same}
 use Rattle.kit_checks.proofs.edges.edges_stay.Goals as goal
 
 pub returns-then-eq : goal.returns-then-eq
-returns-then-eq g c s at =
+returns-then-eq c s at =
     let p = c.program-program.ensures in
     let lists : HasLists c.program-program.result.now = record {
       operations_once = c.know_lists.ensures.operations_once;
@@ -26,7 +26,7 @@ returns-then-eq g c s at =
     (λ h. sym count ∙ eqb-true _ 0 h, λ e. eq-eqb _ 0 (count ∙ e))
 
 pub returns : goal.returns
-returns g c s at =
+returns c s at =
     let p = c.program-program.ensures in
     let lists : HasLists c.program-program.result.now = record {
       operations_once = c.know_lists.ensures.operations_once;

@@ -7,7 +7,7 @@ use Rattle.kit_checks.proofs.Rows.{agree_more, agree_all, get_run, not_at, agree
 use Rattle.kit_checks.proofs.edges.fit_arguments.Goals as goal
 
 pub loop-index-preserved : goal.loop-index-preserved
-loop-index-preserved g c =
+loop-index-preserved c =
     let p = c.args.ctx.now.program in
     let run = get_run (operands_at p c.args.op) c.args.first c.args.count c.loop-index.index c.loop-index-test.true in
     agree_more (map (type_at p) (take c.args.count (drop c.args.first (operands_at p c.args.op)))) (map Some (map (λ (t : TypedValue). t.ty) (arguments_at p c.args.block))) c.loop-index.index
@@ -18,7 +18,7 @@ loop-index-preserved g c =
     c.loop-index.invariant
 
 pub returns-then-not-type_passes : goal.returns-then-not-type_passes
-returns-then-not-type_passes g c =
+returns-then-not-type_passes c =
     let p = c.args.ctx.now.program in
     let run = get_run (operands_at p c.args.op) c.args.first c.args.count c.loop-index.index c.loop-index-test.true in
     not_at (map (type_at p) (take c.args.count (drop c.args.first (operands_at p c.args.op)))) (map Some (map (λ (t : TypedValue). t.ty) (arguments_at p c.args.block))) c.loop-index.index
@@ -29,7 +29,7 @@ returns-then-not-type_passes g c =
     (λ same. true≢false (sym (c.type_passes.ensures.1 (let e : Some c.operand_type.result ≡ Some c.argument_type-ty.result = same in cc)) ∙ c.if-not-type_passes.true))
 
 pub returns : goal.returns
-returns g c =
+returns c =
     let p = c.args.ctx.now.program in
     let within : c.args.count ≤ length (drop c.args.first (operands_at p c.args.op)) = let d = length-drop c.args.first (operands_at p c.args.op) in let w = c.requires.within in omega arith in
     let left : length (map (type_at p) (take c.args.count (drop c.args.first (operands_at p c.args.op)))) ≡ c.args.count =
@@ -44,4 +44,4 @@ returns g c =
     )
 
 pub loop-index-init : goal.loop-index-init
-loop-index-init g c = let p = c.args.ctx.now.program in agree_none (map (type_at p) (take c.args.count (drop c.args.first (operands_at p c.args.op)))) (map Some (map (λ (t : TypedValue). t.ty) (arguments_at p c.args.block)))
+loop-index-init c = let p = c.args.ctx.now.program in agree_none (map (type_at p) (take c.args.count (drop c.args.first (operands_at p c.args.op)))) (map Some (map (λ (t : TypedValue). t.ty) (arguments_at p c.args.block)))

@@ -9,7 +9,7 @@ use Rattle.kit_checks.proofs.Rows.{each_more, each_all, not_each, each_none}
 use Rattle.kit_checks.proofs.edges.segments_fit.Goals as goal
 
 pub loop-index-preserved : goal.loop-index-preserved
-loop-index-preserved g c =
+loop-index-preserved c =
     let p = c.args.ctx.now.program in
     let is : c.size_at-count.result ≡ min (get_or c.args.sizes.now (c.loop-index.index + 1) 0) (length (operands_at p c.args.op) - c.loop-index.first) =
     c.size_at-count.ensures ∙ ap (λ n. min (get_or c.args.sizes.now (c.loop-index.index + 1) 0) (n - c.loop-index.first)) c.get_num_operands-operands.ensures in
@@ -21,7 +21,7 @@ loop-index-preserved g c =
     }
 
 pub returns-then-not-fit_arguments : goal.returns-then-not-fit_arguments
-returns-then-not-fit_arguments g c =
+returns-then-not-fit_arguments c =
     let p = c.args.ctx.now.program in
     let is : c.size_at-count.result ≡ min (get_or c.args.sizes.now (c.loop-index.index + 1) 0) (length (operands_at p c.args.op) - c.loop-index.first) =
     c.size_at-count.ensures ∙ ap (λ n. min (get_or c.args.sizes.now (c.loop-index.index + 1) 0) (n - c.loop-index.first)) c.get_num_operands-operands.ensures in
@@ -31,13 +31,13 @@ returns-then-not-fit_arguments g c =
     (λ fit. true≢false (sym (c.fit_arguments.ensures.1 (subst (λ l. FitBlockArguments (world_of c.args.ctx.now) p l c.get_successor.result) (sym run) fit)) ∙ c.if-not-fit_arguments.true))
 
 pub returns : goal.returns
-returns g c =
+returns c =
     let p = c.args.ctx.now.program in
     each_all (λ (edge : ℕ) (b : Ptr BasicBlock). FitBlockArguments (world_of c.args.ctx.now) p (segment_of (operands_at p c.args.op) c.args.sizes.now edge) b) (successors_at p c.args.op) c.loop-index.index
     (let many = c.get_num_successors-index-end.ensures in let end = c.loop-index-test.false in omega arith) c.loop-index.invariant.fit
 
 pub loop-index-init : goal.loop-index-init
-loop-index-init g c =
+loop-index-init c =
     let p = c.args.ctx.now.program in
     record {
       fit = each_none (λ (edge : ℕ) (b : Ptr BasicBlock). FitBlockArguments (world_of c.args.ctx.now) p (segment_of (operands_at p c.args.op) c.args.sizes.now edge) b) (successors_at p c.args.op);

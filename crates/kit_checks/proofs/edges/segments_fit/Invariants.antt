@@ -10,7 +10,7 @@ use Rattle.kit_checks.proofs.edges.segments_fit.Given as goal
 
 -- their segments fit the blocks that were seen, and this is where the next one begins
 abbrev pub invariant-loop-index : goal.invariant-loop-index
-invariant-loop-index g l = record {
+invariant-loop-index l = record {
   fit : EachBelow (λ (edge : ℕ) (b : Ptr BasicBlock). FitBlockArguments (world_of l.ctx) l.ctx.program (segment_of (operands_at l.ctx.program l.op) l.sizes edge) b) (successors_at l.ctx.program l.op) l.index;
   next : IsBehind (operands_at l.ctx.program l.op) l.sizes l.index l.first;
 }

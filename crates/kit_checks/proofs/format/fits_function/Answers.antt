@@ -2,13 +2,13 @@ use Rattle.kit_checks.proofs.Combined.{part_fails, last_decides}
 use Rattle.kit_checks.proofs.format.fits_function.Goals as goal
 
 pub returns-then-not-has_shape : goal.returns-then-not-has_shape
-returns-then-not-has_shape g c u s = part_fails c.has_shape.result c.if-not-has_shape.true (c.has_shape.ensures u s) (λ q. (q.0, q.1))
+returns-then-not-has_shape c u s = part_fails c.has_shape.result c.if-not-has_shape.true (c.has_shape.ensures u s) (λ q. (q.0, q.1))
 
 pub returns-then-not-has_name : goal.returns-then-not-has_name
-returns-then-not-has_name g c u s = part_fails c.has_name.result c.if-not-has_name.true (c.has_name.ensures u s) (λ q. q.2)
+returns-then-not-has_name c u s = part_fails c.has_name.result c.if-not-has_name.true (c.has_name.ensures u s) (λ q. q.2)
 
 pub returns : goal.returns
-returns g c u s =
+returns c u s =
     let shape = (c.has_shape.ensures u s).0 c.if-not-has_shape.false in
     let named = (c.has_name.ensures u s).0 c.if-not-has_name.false in
     last_decides c.has_own_type.result (c.has_own_type.ensures u s) (λ p. (shape.0, shape.1, named, p)) (λ q. q.3)

@@ -13,7 +13,7 @@ use Rattle.kit_checks.proofs.Named.{HasValues, block_inside, none_seen, operands
 use Rattle.kit_checks.proofs.naming.operands_are_visible.Goals as goal
 
 pub names_visible-requires-clause-order : goal.names_visible-requires-clause-order
-names_visible-requires-clause-order g c =
+names_visible-requires-clause-order c =
     let p = c.program-program.ensures in
     let lists : HasLists c.program-program.result.now = record {
       operations_once = c.know_lists.ensures.operations_once;
@@ -30,7 +30,7 @@ names_visible-requires-clause-order g c =
     (c.requires.order c.in-Some.spot.block (block_inside c.args.ctx.now.program (subst HasLists p lists) c.args.root c.args.op c.in-Some.spot.block c.in-Some.ensures.spot.0 c.requires.inside in_block))
 
 pub returns-in-Some : goal.returns-in-Some
-returns-in-Some g c s at =
+returns-in-Some c s at =
     let p = c.program-program.ensures in
     let lists : HasLists c.program-program.result.now = record {
       operations_once = c.know_lists.ensures.operations_once;
@@ -49,7 +49,7 @@ returns-in-Some g c s at =
     c.names_visible.result (subst (λ x. IsTrue c.names_visible.result ↔ Every (MayName x c.args.op c.in-Some.spot) (operands_at x c.args.op)) p c.names_visible.ensures)
 
 pub returns-in-None : goal.returns-in-None
-returns-in-None g c s at =
+returns-in-None c s at =
     let p = c.program-program.ensures in
     let lists : HasLists c.program-program.result.now = record {
       operations_once = c.know_lists.ensures.operations_once;

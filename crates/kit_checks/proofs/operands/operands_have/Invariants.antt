@@ -6,4 +6,4 @@ use Rattle.kit_checks.proofs.operands.operands_have.Given as goal
 
 -- those that were seen have the type
 abbrev pub invariant-loop-index : goal.invariant-loop-index
-invariant-loop-index g l = EveryBelow (λ o. o ≡ Some l.ty) (map (type_at l.ctx.program) (operands_at l.ctx.program l.op)) l.index
+invariant-loop-index l = EveryBelow (λ o. o ≡ Some l.ty) (map (type_at l.ctx.program) (operands_at l.ctx.program l.op)) l.index

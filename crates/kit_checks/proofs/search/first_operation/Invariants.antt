@@ -4,4 +4,4 @@ use Rattle.kit_checks.proofs.search.first_operation.Given as goal
 
 -- those that were seen keep the rule
 abbrev pub invariant-loop-node : goal.invariant-loop-node
-invariant-loop-node g l = IsKeptUpTo (world_of l.ctx) l.ctx.program l.root l.rule l.node-iterator
+invariant-loop-node l = IsKeptUpTo (world_of l.ctx) l.ctx.program l.root l.rule l.node-iterator

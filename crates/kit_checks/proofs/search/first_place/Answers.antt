@@ -11,7 +11,7 @@ use Rattle.kit_checks.proofs.Searched.{found_inside, found_nowhere, found_first}
 use Rattle.kit_checks.proofs.search.first_place.Goals as goal
 
 pub returns-in-None : goal.returns-in-None
-returns-in-None g c =
+returns-in-None c =
     let p = c.program-program.ensures in
     let lists : HasLists c.program-program.result.now = record {
       operations_once = c.know_lists.ensures.operations_once;
@@ -29,7 +29,7 @@ returns-in-None g c =
     (subst (IsSearched (world_of c.args.ctx.now) c.args.ctx.now.program c.args.root c.args.rule) c.in-None.is c.in_ok-found.ensures)
 
 pub returns-in_ok-place-in-Some : goal.returns-in_ok-place-in-Some
-returns-in_ok-place-in-Some g c =
+returns-in_ok-place-in-Some c =
     let p = c.program-program.ensures in
     let lists : HasLists c.program-program.result.now = record {
       operations_once = c.know_lists.ensures.operations_once;
@@ -51,7 +51,7 @@ returns-in_ok-place-in-Some g c =
     (subst (λ x. IsPlaceOf x c.args.root c.in-Some.op c.in_ok-place-in-Some.place.children.items) p c.in_ok-place-in-Some.ensures)
 
 pub place_of-requires-clause-inside : goal.place_of-requires-clause-inside
-place_of-requires-clause-inside g c =
+place_of-requires-clause-inside c =
     let p = c.program-program.ensures in
     subst (λ x. StandsInside x (OperationNode c.args.root) (OperationNode c.in-Some.op)) (sym p)
     (found_inside (world_of c.args.ctx.now) c.args.ctx.now.program c.args.root c.args.rule

@@ -16,7 +16,7 @@ use Rattle.kit_checks.proofs.search.keeps_all.Goals.{then-returns_fit, else-retu
 use Rattle.kit_checks.proofs.search.keeps_all.Goals.{then-constants_fit, else-constants_fit}
 
 pub returns-then-attributes_are_known : goal.returns-then-attributes_are_known
-returns-then-attributes_are_known g c s at =
+returns-then-attributes_are_known c s at =
     let keeps = Keeps (world_of c.args.ctx.now) in
     let kept-0 : IsTrue c.if-root_is_module.value ↔ (_ × keeps rule.FunctionHasType s) = elim c.if-root_is_module.branch [
       | then-root_is_module w ↦ both w.if-root_is_module.true (c.root_is_module.ensures s at) (w.function_has_type.ensures s.op at.tree) w.value-is
@@ -61,7 +61,7 @@ returns-then-attributes_are_known g c s at =
     all_local (world_of c.args.ctx.now) s _ (both c.if-attributes_are_known.true kept-9 (c.fits_format.ensures s.op at.tree) refl)
 
 pub returns-else-attributes_are_known : goal.returns-else-attributes_are_known
-returns-else-attributes_are_known g c s at =
+returns-else-attributes_are_known c s at =
     let keeps = Keeps (world_of c.args.ctx.now) in
     let kept-0 : IsTrue c.if-root_is_module.value ↔ (_ × keeps rule.FunctionHasType s) = elim c.if-root_is_module.branch [
       | then-root_is_module w ↦ both w.if-root_is_module.true (c.root_is_module.ensures s at) (w.function_has_type.ensures s.op at.tree) w.value-is

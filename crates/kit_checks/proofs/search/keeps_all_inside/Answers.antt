@@ -12,13 +12,13 @@ use Rattle.kit_checks.proofs.Searched.{next_inside, next_is_there}
 use Rattle.kit_checks.proofs.search.keeps_all_inside.Goals as goal
 
 pub loop-node-init : goal.loop-node-init
-loop-node-init g c =
+loop-node-init c =
     walk_begins (world_of c.args.ctx.now) c.args.ctx.now.program c.args.root c.into_iter-node-iterator.result
     (c.into_iter-node-iterator.ensures.into_iter_gives ∙ c.nodes_inside-node-items.ensures.list
     ∙ ap (λ p. nodes_inside p (OperationNode c.args.root)) c.program-program.ensures)
 
 pub keeps_all_at-requires-clause-inside : goal.keeps_all_at-requires-clause-inside
-keeps_all_at-requires-clause-inside g c =
+keeps_all_at-requires-clause-inside c =
     next_inside (world_of c.args.ctx.now) c.args.ctx.now.program c.args.root RootIsModule
     (subst (λ p. AreInside p (OperationNode c.args.root) (nodes_inside p (OperationNode c.args.root)))
     c.program-program.ensures c.nodes_inside-node-items.ensures.inside)
@@ -26,7 +26,7 @@ keeps_all_at-requires-clause-inside g c =
     (c.loop-node.invariant RootIsModule tt)
 
 pub keeps_all_at-requires-clause-live : goal.keeps_all_at-requires-clause-live
-keeps_all_at-requires-clause-live g c =
+keeps_all_at-requires-clause-live c =
     next_is_there (world_of c.args.ctx.now) c.args.ctx.now.program c.args.root RootIsModule
     (subst (λ p. AreInside p (OperationNode c.args.root) (nodes_inside p (OperationNode c.args.root)))
     c.program-program.ensures c.nodes_inside-node-items.ensures.inside)
@@ -34,13 +34,13 @@ keeps_all_at-requires-clause-live g c =
     (c.loop-node.invariant RootIsModule tt)
 
 pub loop-node-preserved : goal.loop-node-preserved
-loop-node-preserved g c =
+loop-node-preserved c =
     walk_goes_on (world_of c.args.ctx.now) c.args.ctx.now.program c.args.root c.loop-node.node-iterator c.next.new.self
     c.in-Some.node c.keeps_all_at.result c.in-Some.ensures.steps c.if-not-keeps_all_at.false c.keeps_all_at.ensures
     c.loop-node.invariant
 
 pub returns-then-not-keeps_all_at : goal.returns-then-not-keeps_all_at
-returns-then-not-keeps_all_at g c =
+returns-then-not-keeps_all_at c =
     let p = c.program-program.ensures in
     let lists : HasLists c.program-program.result.now = record {
       operations_once = c.know_lists.ensures.operations_once;
@@ -65,7 +65,7 @@ returns-then-not-keeps_all_at g c =
     )
 
 pub returns : goal.returns
-returns g c =
+returns c =
     let p = c.program-program.ensures in
     let lists : HasLists c.program-program.result.now = record {
       operations_once = c.know_lists.ensures.operations_once;
@@ -85,10 +85,10 @@ returns g c =
     )
 
 pub know_tree-requires : goal.know_tree-requires
-know_tree-requires g c = subst (λ p. IsSome (operation_at p c.args.root)) (sym c.program-program.ensures) c.requires.root
+know_tree-requires c = subst (λ p. IsSome (operation_at p c.args.root)) (sym c.program-program.ensures) c.requires.root
 
 pub nodes_inside-node-items-requires : goal.nodes_inside-node-items-requires
-nodes_inside-node-items-requires g c = subst (λ p. IsLiveNode p (OperationNode c.args.root)) (sym c.program-program.ensures) c.requires.root
+nodes_inside-node-items-requires c = subst (λ p. IsLiveNode p (OperationNode c.args.root)) (sym c.program-program.ensures) c.requires.root
 
 pub keeps_all_at-requires-clause-order : goal.keeps_all_at-requires-clause-order
-keeps_all_at-requires-clause-order g c = c.requires.order
+keeps_all_at-requires-clause-order c = c.requires.order

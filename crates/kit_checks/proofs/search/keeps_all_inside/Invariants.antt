@@ -4,4 +4,4 @@ use Rattle.kit_checks.proofs.search.keeps_all_inside.Given as goal
 
 -- those that were seen keep each rule
 abbrev pub invariant-loop-node : goal.invariant-loop-node
-invariant-loop-node g l = AreKeptUpTo (world_of l.ctx) l.ctx.program l.root l.node-iterator
+invariant-loop-node l = AreKeptUpTo (world_of l.ctx) l.ctx.program l.root l.node-iterator

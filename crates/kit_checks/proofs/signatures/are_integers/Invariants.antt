@@ -5,4 +5,4 @@ use Rattle.kit_checks.proofs.signatures.are_integers.Given as goal
 
 -- those that were seen are integer types
 abbrev pub invariant-loop-ty : goal.invariant-loop-ty
-invariant-loop-ty g l = EveryBelow (IsInteger (world_of l.ctx)) l.types l.ty-index
+invariant-loop-ty l = EveryBelow (IsInteger (world_of l.ctx)) l.types l.ty-index

@@ -8,7 +8,7 @@ use Rattle.kit_checks.proofs.Signed.{takes_of, body_of}
 use Rattle.kit_checks.proofs.signatures.has_function_body.Goals as goal
 
 pub returns-else-not-are_integers-2 : goal.returns-else-not-are_integers-2
-returns-else-not-are_integers-2 g c u s =
+returns-else-not-are_integers-2 c u s =
     let is : signature (world_of c.args.ctx.now) u ≡ Some c.in-Some.ty.now = c.signature.ensures u s ∙ ap option_copied c.in-Some.is in
     last_decides c.takes_inputs.result (c.takes_inputs.ensures u s)
     (λ takes. body_of (world_of c.args.ctx.now) u c.in-Some.ty.now is

@@ -6,4 +6,4 @@ use Rattle.kit_checks.proofs.signatures.operands_are.Given as goal
 
 -- those that were seen have the types
 abbrev pub invariant-loop-index : goal.invariant-loop-index
-invariant-loop-index g l = AgreeBelow (map (type_at l.ctx.program) (operands_at l.ctx.program l.op)) (map Some l.types) l.index
+invariant-loop-index l = AgreeBelow (map (type_at l.ctx.program) (operands_at l.ctx.program l.op)) (map Some l.types) l.index

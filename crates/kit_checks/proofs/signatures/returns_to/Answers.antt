@@ -6,7 +6,7 @@ use Rattle.kit_checks.specs.World.{world_of}
 use Rattle.kit_checks.proofs.signatures.returns_to.Goals as goal
 
 pub returns-in-Some : goal.returns-in-Some
-returns-in-Some g c u s f t =
+returns-in-Some c u s f t =
     let is : signature (world_of c.args.ctx.now) f ≡ Some c.in-Some.ty.now = c.signature.ensures f t ∙ ap option_copied c.in-Some.is in (
       λ h ty sig.
           let e : Some c.in-Some.ty.now ≡ Some ty = sym is ∙ sig in

@@ -6,7 +6,7 @@ use Rattle.kit_checks.proofs.Local.{not_root}
 use Rattle.kit_checks.proofs.tests.root_is_module.Goals as goal
 
 pub returns-then-eq : goal.returns-then-eq
-returns-then-eq g c s at =
+returns-then-eq c s at =
     let kind = c.kind_of.ensures s.op at.tree in
     let none = at_root c.args.ctx.now.program c.args.root c.args.op (same_yes c.args.op c.args.root c.eq.result c.eq.ensures c.if-eq.true) s.around at.around in (
       λ h around. kind ∙ c.is_module.ensures.0 h,
@@ -14,4 +14,4 @@ returns-then-eq g c s at =
     )
 
 pub returns : goal.returns
-returns g c = not_root (world_of c.args.ctx.now) c.args.ctx.now.program c.args.root c.args.op (not_same c.args.op c.args.root c.eq.result c.eq.ensures c.if-eq.false)
+returns c = not_root (world_of c.args.ctx.now) c.args.ctx.now.program c.args.root c.args.op (not_same c.args.op c.args.root c.eq.result c.eq.ensures c.if-eq.false)

@@ -9,21 +9,21 @@ use Rattle.kit_checks.proofs.Trees.{argument_types}
 use Rattle.kit_checks.proofs.types.arguments_pass.Goals as goal
 
 pub loop-index-init : goal.loop-index-init
-loop-index-init g c = every_none (TypePasses (world_of c.args.ctx.now) c.args.test) (map (λ (t : TypedValue). t.ty) (arguments_at c.args.ctx.now.program c.args.block))
+loop-index-init c = every_none (TypePasses (world_of c.args.ctx.now) c.args.test) (map (λ (t : TypedValue). t.ty) (arguments_at c.args.ctx.now.program c.args.block))
 
 pub loop-index-preserved : goal.loop-index-preserved
-loop-index-preserved g c =
+loop-index-preserved c =
     every_more (TypePasses (world_of c.args.ctx.now) c.args.test) (map (λ (t : TypedValue). t.ty) (arguments_at c.args.ctx.now.program c.args.block)) c.loop-index.index c.argument_type.result (slice_get-map (λ (t : TypedValue). t.ty) (arguments_at c.args.ctx.now.program c.args.block) c.loop-index.index ∙ c.argument_type.ensures)
     (c.type_passes.ensures.0 c.if-not-type_passes.false) c.loop-index.invariant
 
 pub returns-then-not-type_passes : goal.returns-then-not-type_passes
-returns-then-not-type_passes g c u s =
+returns-then-not-type_passes c u s =
     not_every (TypePasses (world_of c.args.ctx.now) c.args.test) _ _ c.loop-index.index c.argument_type.result (argument_types c.args.ctx.now.program c.args.block u s)
     (slice_get-map (λ (t : TypedValue). t.ty) (arguments_at c.args.ctx.now.program c.args.block) c.loop-index.index ∙ c.argument_type.ensures)
     (λ h. true≢false (sym (c.type_passes.ensures.1 h) ∙ c.if-not-type_passes.true))
 
 pub returns : goal.returns
-returns g c u s =
+returns c u s =
     is_every (TypePasses (world_of c.args.ctx.now) c.args.test) _ _ (argument_types c.args.ctx.now.program c.args.block u s)
     (every_all (TypePasses (world_of c.args.ctx.now) c.args.test) (map (λ (t : TypedValue). t.ty) (arguments_at c.args.ctx.now.program c.args.block)) c.loop-index.index
     (let m : length (map (λ (t : TypedValue). t.ty) (arguments_at c.args.ctx.now.program c.args.block)) ≡ length (arguments_at c.args.ctx.now.program c.args.block) = length-map (arguments_at c.args.ctx.now.program c.args.block) (λ (t : TypedValue). t.ty) in

@@ -9,21 +9,21 @@ use Rattle.kit_checks.proofs.Trees.{result_types}
 use Rattle.kit_checks.proofs.types.results_pass.Goals as goal
 
 pub loop-index-init : goal.loop-index-init
-loop-index-init g c = every_none (TypePasses (world_of c.args.ctx.now) c.args.test) (map (λ (t : TypedValue). t.ty) (results_at c.args.ctx.now.program c.args.op))
+loop-index-init c = every_none (TypePasses (world_of c.args.ctx.now) c.args.test) (map (λ (t : TypedValue). t.ty) (results_at c.args.ctx.now.program c.args.op))
 
 pub loop-index-preserved : goal.loop-index-preserved
-loop-index-preserved g c =
+loop-index-preserved c =
     every_more (TypePasses (world_of c.args.ctx.now) c.args.test) (map (λ (t : TypedValue). t.ty) (results_at c.args.ctx.now.program c.args.op)) c.loop-index.index c.get_type.result (slice_get-map (λ (t : TypedValue). t.ty) (results_at c.args.ctx.now.program c.args.op) c.loop-index.index ∙ c.get_type.ensures)
     (c.type_passes.ensures.0 c.if-not-type_passes.false) c.loop-index.invariant
 
 pub returns-then-not-type_passes : goal.returns-then-not-type_passes
-returns-then-not-type_passes g c u s =
+returns-then-not-type_passes c u s =
     not_every (TypePasses (world_of c.args.ctx.now) c.args.test) _ _ c.loop-index.index c.get_type.result (result_types c.args.ctx.now.program c.args.op u s)
     (slice_get-map (λ (t : TypedValue). t.ty) (results_at c.args.ctx.now.program c.args.op) c.loop-index.index ∙ c.get_type.ensures)
     (λ h. true≢false (sym (c.type_passes.ensures.1 h) ∙ c.if-not-type_passes.true))
 
 pub returns : goal.returns
-returns g c u s =
+returns c u s =
     is_every (TypePasses (world_of c.args.ctx.now) c.args.test) _ _ (result_types c.args.ctx.now.program c.args.op u s)
     (every_all (TypePasses (world_of c.args.ctx.now) c.args.test) (map (λ (t : TypedValue). t.ty) (results_at c.args.ctx.now.program c.args.op)) c.loop-index.index
     (let m : length (map (λ (t : TypedValue). t.ty) (results_at c.args.ctx.now.program c.args.op)) ≡ length (results_at c.args.ctx.now.program c.args.op) = length-map (results_at c.args.ctx.now.program c.args.op) (λ (t : TypedValue). t.ty) in

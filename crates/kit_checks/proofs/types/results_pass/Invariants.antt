@@ -7,4 +7,4 @@ use Rattle.kit_checks.proofs.types.results_pass.Given as goal
 
 -- those that were seen pass the test
 abbrev pub invariant-loop-index : goal.invariant-loop-index
-invariant-loop-index g l = EveryBelow (TypePasses (world_of l.ctx) l.test) (map (λ (t : TypedValue). t.ty) (results_at l.ctx.program l.op)) l.index
+invariant-loop-index l = EveryBelow (TypePasses (world_of l.ctx) l.test) (map (λ (t : TypedValue). t.ty) (results_at l.ctx.program l.op)) l.index

@@ -5,7 +5,7 @@ use Rattle.kit_verifier.proofs.Sets.{gains_as, gains_none, on_ok}
 use Rattle.kit_verifier.proofs.callees.add_callee_at.Goals as goal
 
 pub returns-in-Some : goal.returns-in-Some
-returns-in-Some g c =
+returns-in-Some c =
     let w = world_of c.args.ctx.now in
     let p = c.args.ctx.now.program in
     let q = callable_of c.in-Some.callee in
@@ -17,7 +17,7 @@ returns-in-Some g c =
     c.add_callee.ensures
 
 pub returns-in-None : goal.returns-in-None
-returns-in-None g c =
+returns-in-None c =
     let w = world_of c.args.ctx.now in
     let p = c.args.ctx.now.program in
     gains_none (callables_of c.args.callees.now.keys) (IsCallableAt w p c.args.node)

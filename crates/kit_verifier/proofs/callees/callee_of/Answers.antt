@@ -6,7 +6,7 @@ use Rattle.kit_verifier.proofs.Called.{callable_is}
 use Rattle.kit_verifier.proofs.callees.callee_of.Goals as goal
 
 pub returns : goal.returns
-returns g c q =
+returns c q =
     subst (λ f. (f ≡ Some q) ↔ IsCallable (world_of c.args.ctx.now) c.args.ctx.now.program c.args.op q) (sym c.callee_from.ensures)
     (callable_is (world_of c.args.ctx.now) c.args.ctx.now.program c.args.op c.kind_of.result c.get_parent_op.result (option_map (λ text. text.now) c.text_under.result) c.type_under.result c.kind_of.ensures
     (c.is_function.ensures.0 c.if-not-is_function.false)

@@ -7,20 +7,20 @@ use Rattle.kit_verifier.proofs.Sets.{Collected, all_done, collected_all, collect
 use Rattle.kit_verifier.proofs.callees.callees_inside.Goals as goal
 
 pub add_callee_at-requires : goal.add_callee_at-requires
-add_callee_at-requires g c =
+add_callee_at-requires c =
     let all = nodes_inside c.args.ctx.now.program (OperationNode c.args.root) in
     is_live c.args.ctx.now.program (OperationNode c.args.root) (IsCallableAt (world_of c.args.ctx.now) c.args.ctx.now.program) all
     (subst (λ p. AreInside p (OperationNode c.args.root) (nodes_inside p (OperationNode c.args.root))) c.program-program.ensures c.nodes_inside-node-items.ensures.inside)
     c.in-Some.node (next_of all c.loop-node.yielded c.loop-node.node-iterator c.next.new.self c.in-Some.node c.in-Some.ensures.steps c.loop-node.invariant.listed)
 
 pub loop-node-preserved : goal.loop-node-preserved
-loop-node-preserved g c = record {
+loop-node-preserved c = record {
   listed = one_further (nodes_inside c.args.ctx.now.program (OperationNode c.args.root)) c.loop-node.yielded c.loop-node.node-iterator c.next.new.self c.in-Some.node c.in-Some.ensures.steps c.loop-node.invariant.listed;
   collected = collected_more (IsCallableAt (world_of c.args.ctx.now) c.args.ctx.now.program) c.loop-node.yielded c.in-Some.node (callables_of c.loop-node.callees.keys) (callables_of c.add_callee_at.new.callees.keys) c.in_ok-add_callee_at.ensures c.loop-node.invariant.collected;
 }
 
 pub returns : goal.returns
-returns g c =
+returns c =
     let all = nodes_inside c.args.ctx.now.program (OperationNode c.args.root) in
     let done = all_done all c.loop-node.yielded c.loop-node.node-iterator c.in-None.ensures.steps.0 c.loop-node.invariant.listed in
     collected_all c.args.ctx.now.program (OperationNode c.args.root) (IsCallableAt (world_of c.args.ctx.now) c.args.ctx.now.program) all

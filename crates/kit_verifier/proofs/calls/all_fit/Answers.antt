@@ -12,26 +12,26 @@ use Rattle.kit_verifier.proofs.NameRules as names
 use Rattle.kit_verifier.proofs.calls.all_fit.Goals as goal
 
 pub loop-call-init : goal.loop-call-init
-loop-call-init g c = names.fit_none (world_of c.args.ctx.now) c.args.ctx.now.program c.args.root c.args.calls.now
+loop-call-init c = names.fit_none (world_of c.args.ctx.now) c.args.ctx.now.program c.args.root c.args.calls.now
 
 pub calls_fit-requires-clause-inside : goal.calls_fit-requires-clause-inside
-calls_fit-requires-clause-inside g c =
+calls_fit-requires-clause-inside c =
     names.call_inside (world_of c.args.ctx.now) c.args.ctx.now.program c.args.root c.args.calls.now c.requires.calls _
     (at_has c.args.calls.now c.loop-call.call-index _ (slice_get-get_or c.args.calls.now c.loop-call.call-index no_handle (omega arith)))
 
 pub calls_fit-requires-clause-op : goal.calls_fit-requires-clause-op
-calls_fit-requires-clause-op g c =
+calls_fit-requires-clause-op c =
     names.call_live (world_of c.args.ctx.now) c.args.ctx.now.program c.args.root c.requires.root _
     (names.call_inside (world_of c.args.ctx.now) c.args.ctx.now.program c.args.root c.args.calls.now c.requires.calls _
     (at_has c.args.calls.now c.loop-call.call-index _ (slice_get-get_or c.args.calls.now c.loop-call.call-index no_handle (omega arith))))
 
 pub loop-call-preserved : goal.loop-call-preserved
-loop-call-preserved g c =
+loop-call-preserved c =
     names.fit_more (world_of c.args.ctx.now) c.args.ctx.now.program c.args.root c.args.calls.now c.loop-call.call-index _ c.calls_fit.result
     (slice_get-get_or c.args.calls.now c.loop-call.call-index no_handle (omega arith)) c.if-not-calls_fit.false c.calls_fit.ensures c.loop-call.invariant
 
 pub returns-then-not-calls_fit : goal.returns-then-not-calls_fit
-returns-then-not-calls_fit g c =
+returns-then-not-calls_fit c =
     let p = c.program-program.ensures in
     let lists : HasLists c.program-program.result.now = assumption c.know_lists.ensures in
     let called : slice_get c.args.calls.now c.loop-call.call-index ≡ Some (get_or c.args.calls.now c.loop-call.call-index no_handle) =
@@ -45,7 +45,7 @@ returns-then-not-calls_fit g c =
     )
 
 pub returns : goal.returns
-returns g c =
+returns c =
     let p = c.program-program.ensures in
     let lists : HasLists c.program-program.result.now = assumption c.know_lists.ensures in (
       λ h. names.all_fit (world_of c.args.ctx.now) c.args.ctx.now.program c.args.root (subst HasLists p lists)

@@ -6,7 +6,7 @@ use Rattle.kit_verifier.proofs.Called.{calls_it, calls_none, calls_unlisted}
 use Rattle.kit_verifier.proofs.calls.calls_function.Goals as goal
 
 pub returns-then-not-has_callee : goal.returns-then-not-has_callee
-returns-then-not-has_callee g c s at =
+returns-then-not-has_callee c s at =
     let lists : HasLists c.program.result.now = record {
       operations_once = c.know_lists.ensures.operations_once;
       blocks_once = c.know_lists.ensures.blocks_once;
@@ -21,7 +21,7 @@ returns-then-not-has_callee g c s at =
     (callable_of c.in-Some.callee) (ap (option_map callable_of) c.in-Some.is) c.has_callee.result c.if-not-has_callee.true c.has_callee.ensures
 
 pub returns-else-not-has_callee : goal.returns-else-not-has_callee
-returns-else-not-has_callee g c s at =
+returns-else-not-has_callee c s at =
     let lists : HasLists c.program.result.now = record {
       operations_once = c.know_lists.ensures.operations_once;
       blocks_once = c.know_lists.ensures.blocks_once;
@@ -36,7 +36,7 @@ returns-else-not-has_callee g c s at =
     (callable_of c.in-Some.callee) (ap (option_map callable_of) c.in-Some.is) c.has_callee.result c.if-not-has_callee.false c.has_callee.ensures c.has_signature.result (c.has_signature.ensures s.op at.tree)
 
 pub returns-in-None : goal.returns-in-None
-returns-in-None g c s at =
+returns-in-None c s at =
     let lists : HasLists c.program.result.now = record {
       operations_once = c.know_lists.ensures.operations_once;
       blocks_once = c.know_lists.ensures.blocks_once;

@@ -8,7 +8,7 @@ use Rattle.kit_verifier.proofs.Read.{kind_tells}
 use Rattle.kit_verifier.proofs.modules.has_body_if_module.Goals as goal
 
 pub returns : goal.returns
-returns g c u s =
+returns c u s =
     asked c.is_module.result c.has_module_body.result c.if-not-is_module.false
     (kind_tells (world_of c.args.ctx.now) c.args.ctx.now.program c.args.op u s c.kind_of.result Module c.is_module.result c.kind_of.ensures c.is_module.ensures)
     (subst (λ p. OfTree p c.args.op (λ v. IsTrue c.has_module_body.result ↔ HasModuleBody v)) c.program.ensures c.has_module_body.ensures u s)

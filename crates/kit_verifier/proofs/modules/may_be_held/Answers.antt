@@ -7,7 +7,7 @@ use Rattle.kit_verifier.proofs.Read.{kind_from}
 use Rattle.kit_verifier.proofs.modules.may_be_held.Goals as goal
 
 pub returns : goal.returns
-returns g c s at a here =
+returns c s at a here =
     let lists : HasLists c.program.result.now = record {
       operations_once = c.know_lists.ensures.operations_once;
       blocks_once = c.know_lists.ensures.blocks_once;

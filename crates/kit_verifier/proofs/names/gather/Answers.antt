@@ -11,14 +11,14 @@ use Rattle.kit_verifier.proofs.Sets.{Collected, all_done, collected_all, collect
 use Rattle.kit_verifier.proofs.names.gather.Goals as goal
 
 pub gather_at-requires : goal.gather_at-requires
-gather_at-requires g c =
+gather_at-requires c =
     let all = nodes_inside c.args.ctx.now.program (OperationNode c.args.root) in
     is_live c.args.ctx.now.program (OperationNode c.args.root) (IsCallAt (world_of c.args.ctx.now) c.args.ctx.now.program) all
     (subst (λ p. AreInside p (OperationNode c.args.root) (nodes_inside p (OperationNode c.args.root))) c.program-program.ensures c.nodes_inside-node-items.ensures.inside)
     c.in-Some.node (next_of all c.loop-node.yielded c.loop-node.node-iterator c.next.new.self c.in-Some.node c.in-Some.ensures.steps c.loop-node.invariant.listed)
 
 pub loop-node-preserved : goal.loop-node-preserved
-loop-node-preserved g c = record {
+loop-node-preserved c = record {
   listed = one_further (nodes_inside c.args.ctx.now.program (OperationNode c.args.root)) c.loop-node.yielded c.loop-node.node-iterator c.next.new.self c.in-Some.node c.in-Some.ensures.steps c.loop-node.invariant.listed;
   holds = holds_more (world_of c.args.ctx.now) c.args.ctx.now.program c.loop-node.yielded c.in-Some.node c.in_ok-holds.holds c.if-not-holds.false c.in_ok-holds.ensures.holds c.loop-node.invariant.holds;
   callees = collected_more (IsCallableAt (world_of c.args.ctx.now) c.args.ctx.now.program) c.loop-node.yielded c.in-Some.node (callables_of c.loop-node.callees.keys) (callables_of c.gather_at.new.callees.keys) c.in_ok-holds.ensures.callees c.loop-node.invariant.callees;
@@ -26,7 +26,7 @@ loop-node-preserved g c = record {
 }
 
 pub returns-then-not-holds : goal.returns-then-not-holds
-returns-then-not-holds g c =
+returns-then-not-holds c =
     let all = nodes_inside c.args.ctx.now.program (OperationNode c.args.root) in
     let are = subst (λ p. AreInside p (OperationNode c.args.root) (nodes_inside p (OperationNode c.args.root))) c.program-program.ensures c.nodes_inside-node-items.ensures.inside in
     let k = has_at all c.in-Some.node (next_of all c.loop-node.yielded c.loop-node.node-iterator c.next.new.self c.in-Some.node c.in-Some.ensures.steps c.loop-node.invariant.listed) in (
@@ -36,7 +36,7 @@ returns-then-not-holds g c =
     )
 
 pub returns : goal.returns
-returns g c =
+returns c =
     let all = nodes_inside c.args.ctx.now.program (OperationNode c.args.root) in
     let are = subst (λ p. AreInside p (OperationNode c.args.root) (nodes_inside p (OperationNode c.args.root))) c.program-program.ensures c.nodes_inside-node-items.ensures.inside in
     let done = all_done all c.loop-node.yielded c.loop-node.node-iterator c.in-None.ensures.steps.0 c.loop-node.invariant.listed in

@@ -11,7 +11,7 @@ use Rattle.kit_verifier.proofs.names.gather.Given as goal
 
 -- what those that were seen give is there, and they hold what they may
 abbrev pub invariant-loop-node : goal.invariant-loop-node
-invariant-loop-node g l = record {
+invariant-loop-node l = record {
   listed : l.yielded ++ l.node-iterator ≡ nodes_inside l.ctx.program (OperationNode l.fn.root);
   holds : (e : IRNode) → Has e l.yielded → HoldsAt (world_of l.ctx) l.ctx.program e;
   callees : Collected (IsCallableAt (world_of l.ctx) l.ctx.program) l.yielded (callables_of l.callees.keys);

@@ -7,7 +7,7 @@ use Rattle.kit_verifier.proofs.NameRules.{body_told}
 use Rattle.kit_verifier.proofs.names.has_body.Goals as goal
 
 pub returns : goal.returns
-returns g c =
+returns c =
     body_told (world_of c.args.ctx.now) c.args.ctx.now.program c.args.op c.know_tree.ensures.0
     (subst (λ p. StandsFor p c.args.op c.know_tree.ensures.0) c.program-program.ensures c.know_tree.ensures.1)
     c.has_module_body.result

@@ -9,7 +9,7 @@ use Rattle.kit_verifier.proofs.NameRules.{all_hold, both_kept, each_holds, one_b
 use Rattle.kit_verifier.proofs.names.keeps_names.Goals as goal
 
 pub returns-in-Some : goal.returns-in-Some
-returns-in-Some g c =
+returns-in-Some c =
     let p = c.program-program.ensures in
     let lists : HasLists c.program-program.result.now = assumption c.know_lists.ensures in
     let found = subst (IsGathered (world_of c.args.ctx.now) c.args.ctx.now.program c.args.root) c.in-Some.is c.in_ok-gathered.ensures in
@@ -20,7 +20,7 @@ returns-in-Some g c =
     c.all_fit.ensures
 
 pub returns-in-None : goal.returns-in-None
-returns-in-None g c =
+returns-in-None c =
     let p = c.program-program.ensures in
     let lists : HasLists c.program-program.result.now = assumption c.know_lists.ensures in
     let e = subst (IsGathered (world_of c.args.ctx.now) c.args.ctx.now.program c.args.root) c.in-None.is c.in_ok-gathered.ensures in
@@ -29,6 +29,6 @@ returns-in-None g c =
     c.know_tree.ensures.0 (subst (λ x. StandsFor x c.args.root c.know_tree.ensures.0) p c.know_tree.ensures.1) kept e.0 e.1))
 
 pub all_fit-requires-clause-calls : goal.all_fit-requires-clause-calls
-all_fit-requires-clause-calls g c =
+all_fit-requires-clause-calls c =
     let found = subst (IsGathered (world_of c.args.ctx.now) c.args.ctx.now.program c.args.root) c.in-Some.is c.in_ok-gathered.ensures in
     subst (AreCalls (world_of c.args.ctx.now) c.args.ctx.now.program c.args.root) (sym c.as_slice.ensures.value) found.calls

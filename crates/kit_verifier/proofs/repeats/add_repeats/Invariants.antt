@@ -9,7 +9,7 @@ use Rattle.kit_verifier.proofs.repeats.add_repeats.Given as goal
 
 -- the names of those that were seen are known, and the repeats among them are put to the others
 abbrev pub invariant-loop-op : goal.invariant-loop-op
-invariant-loop-op g l = record {
+invariant-loop-op l = record {
   listed : l.yielded ++ l.op-iterator ≡ operations_in l.ctx.program l.fn.block;
   names : Collected (Named (world_of l.ctx) l.ctx.program) l.yielded (texts_of l.names.keys);
   repeats : Gains l.initial.repeats.keys l.repeats.keys (IsRepeat (world_of l.ctx) l.ctx.program l.yielded);

@@ -7,20 +7,20 @@ use Rattle.kit_verifier.proofs.Sets.{Collected, all_done, collected_all, collect
 use Rattle.kit_verifier.proofs.repeats.repeats_inside.Goals as goal
 
 pub add_repeats_at-requires : goal.add_repeats_at-requires
-add_repeats_at-requires g c =
+add_repeats_at-requires c =
     let all = nodes_inside c.args.ctx.now.program (OperationNode c.args.root) in
     is_live c.args.ctx.now.program (OperationNode c.args.root) (IsRepeatAt (world_of c.args.ctx.now) c.args.ctx.now.program) all
     (subst (λ p. AreInside p (OperationNode c.args.root) (nodes_inside p (OperationNode c.args.root))) c.program-program.ensures c.nodes_inside-node-items.ensures.inside)
     c.in-Some.node (next_of all c.loop-node.yielded c.loop-node.node-iterator c.next.new.self c.in-Some.node c.in-Some.ensures.steps c.loop-node.invariant.listed)
 
 pub loop-node-preserved : goal.loop-node-preserved
-loop-node-preserved g c = record {
+loop-node-preserved c = record {
   listed = one_further (nodes_inside c.args.ctx.now.program (OperationNode c.args.root)) c.loop-node.yielded c.loop-node.node-iterator c.next.new.self c.in-Some.node c.in-Some.ensures.steps c.loop-node.invariant.listed;
   collected = collected_more (IsRepeatAt (world_of c.args.ctx.now) c.args.ctx.now.program) c.loop-node.yielded c.in-Some.node c.loop-node.repeats.keys c.add_repeats_at.new.repeats.keys c.in_ok-add_repeats_at.ensures c.loop-node.invariant.collected;
 }
 
 pub returns : goal.returns
-returns g c =
+returns c =
     let all = nodes_inside c.args.ctx.now.program (OperationNode c.args.root) in
     let done = all_done all c.loop-node.yielded c.loop-node.node-iterator c.in-None.ensures.steps.0 c.loop-node.invariant.listed in
     collected_all c.args.ctx.now.program (OperationNode c.args.root) (IsRepeatAt (world_of c.args.ctx.now) c.args.ctx.now.program) all

@@ -8,7 +8,7 @@ use Rattle.kit_verifier.proofs.repeats.repeats_inside.Given as goal
 
 -- what those that were seen give is there
 abbrev pub invariant-loop-node : goal.invariant-loop-node
-invariant-loop-node g l = record {
+invariant-loop-node l = record {
   listed : l.yielded ++ l.node-iterator ≡ nodes_inside l.ctx.program (OperationNode l.fn.root);
   collected : Collected (IsRepeatAt (world_of l.ctx) l.ctx.program) l.yielded l.repeats.keys;
 }

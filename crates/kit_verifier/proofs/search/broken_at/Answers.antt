@@ -6,10 +6,10 @@ use Rattle.kit_verifier.specs.Tables.{rule_of}
 use Rattle.kit_verifier.proofs.search.broken_at.Goals as goal
 
 pub returns-then-keeps : goal.returns-then-keeps
-returns-then-keeps g c =
+returns-then-keeps c =
     subst (KeptAt (world_of c.args.ctx.now) c.args.ctx.now.program c.args.root (rule_of c.args.table.now)) (sym c.in-Operation.is)
     (kept_if (world_of c.args.ctx.now) c.args.ctx.now.program c.args.root (rule_of c.args.table.now) c.in-Operation.op c.keeps.result c.if-keeps.true c.keeps.ensures)
 
 pub returns-else-keeps : goal.returns-else-keeps
-returns-else-keeps g c =
+returns-else-keeps c =
     (c.in-Operation.is, broken_if (world_of c.args.ctx.now) c.args.ctx.now.program c.args.root (rule_of c.args.table.now) c.in-Operation.op c.keeps.result c.if-keeps.false c.keeps.ensures)

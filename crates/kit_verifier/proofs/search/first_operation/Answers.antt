@@ -8,31 +8,31 @@ use Rattle.kit_verifier.specs.Tables.{rule_of}
 use Rattle.kit_verifier.proofs.search.first_operation.Goals as goal
 
 pub loop-node-init : goal.loop-node-init
-loop-node-init g c =
+loop-node-init c =
     search_begins (world_of c.args.ctx.now) c.args.ctx.now.program c.args.root (rule_of c.args.table.now) c.into_iter-node-iterator.result
     (c.into_iter-node-iterator.ensures.into_iter_gives ∙ c.nodes_inside-node-items.ensures.list ∙ ap (λ p. nodes_inside p (OperationNode c.args.root)) c.program-program.ensures)
 
 pub broken_at-requires-clause-inside : goal.broken_at-requires-clause-inside
-broken_at-requires-clause-inside g c =
+broken_at-requires-clause-inside c =
     next_inside (world_of c.args.ctx.now) c.args.ctx.now.program c.args.root (rule_of c.args.table.now)
     (subst (λ p. AreInside p (OperationNode c.args.root) (nodes_inside p (OperationNode c.args.root))) c.program-program.ensures c.nodes_inside-node-items.ensures.inside)
     c.loop-node.node-iterator c.next.new.self c.in-Some.node c.in-Some.ensures.steps c.loop-node.invariant
 
 pub broken_at-requires-clause-live : goal.broken_at-requires-clause-live
-broken_at-requires-clause-live g c =
+broken_at-requires-clause-live c =
     next_is_there (world_of c.args.ctx.now) c.args.ctx.now.program c.args.root (rule_of c.args.table.now)
     (subst (λ p. AreInside p (OperationNode c.args.root) (nodes_inside p (OperationNode c.args.root))) c.program-program.ensures c.nodes_inside-node-items.ensures.inside)
     c.loop-node.node-iterator c.next.new.self c.in-Some.node c.in-Some.ensures.steps c.loop-node.invariant
 
 pub loop-node-preserved : goal.loop-node-preserved
-loop-node-preserved g c =
+loop-node-preserved c =
     search_goes_on (world_of c.args.ctx.now) c.args.ctx.now.program c.args.root (rule_of c.args.table.now) c.loop-node.node-iterator c.next.new.self c.in-Some.node c.in-Some.ensures.steps
     (subst (IsBrokenAt (world_of c.args.ctx.now) c.args.ctx.now.program c.args.root (rule_of c.args.table.now) c.in-Some.node) c.in-None-broken_at.is c.broken_at.ensures) c.loop-node.invariant
 
 pub returns-in-Some-broken_at : goal.returns-in-Some-broken_at
-returns-in-Some-broken_at g c =
+returns-in-Some-broken_at c =
     let e = subst (IsBrokenAt (world_of c.args.ctx.now) c.args.ctx.now.program c.args.root (rule_of c.args.table.now) c.in-Some.node) c.in-Some-broken_at.is c.broken_at.ensures in
     search_finds (world_of c.args.ctx.now) c.args.ctx.now.program c.args.root (rule_of c.args.table.now) c.loop-node.node-iterator c.next.new.self c.in-Some.node c.in-Some-broken_at.op c.in-Some.ensures.steps e.0 e.1 c.loop-node.invariant
 
 pub returns : goal.returns
-returns g c = search_ends (world_of c.args.ctx.now) c.args.ctx.now.program c.args.root (rule_of c.args.table.now) c.loop-node.node-iterator c.in-None.ensures.steps.0 c.loop-node.invariant
+returns c = search_ends (world_of c.args.ctx.now) c.args.ctx.now.program c.args.root (rule_of c.args.table.now) c.loop-node.node-iterator c.in-None.ensures.steps.0 c.loop-node.invariant

@@ -5,4 +5,4 @@ use Rattle.kit_verifier.proofs.search.first_operation.Given as goal
 
 -- those that were seen keep the rule
 abbrev pub invariant-loop-node : goal.invariant-loop-node
-invariant-loop-node g l = IsKeptUpTo (world_of l.ctx) l.ctx.program l.root (rule_of l.table) l.node-iterator
+invariant-loop-node l = IsKeptUpTo (world_of l.ctx) l.ctx.program l.root (rule_of l.table) l.node-iterator

@@ -12,7 +12,7 @@ use Rattle.kit_verifier.specs.Tables.{rule_of}
 use Rattle.kit_verifier.proofs.search.first_place_by.Goals as goal
 
 pub returns : goal.returns
-returns g c =
+returns c =
     let p = c.program-program.ensures in
     let lists : HasLists c.program-program.result.now = record {
       operations_once = c.know_lists.ensures.operations_once;
@@ -30,7 +30,7 @@ returns g c =
     (subst (IsSearched (world_of c.args.ctx.now) c.args.ctx.now.program c.args.root (rule_of c.args.table.now)) c.in-None.is c.first_operation.ensures)
 
 pub returns-in-Ok : goal.returns-in-Ok
-returns-in-Ok g c =
+returns-in-Ok c =
     let p = c.program-program.ensures in
     let lists : HasLists c.program-program.result.now = record {
       operations_once = c.know_lists.ensures.operations_once;
@@ -52,7 +52,7 @@ returns-in-Ok g c =
     (subst (λ x. IsPlaceOf x c.args.root c.in-Some.op c.in-Ok.place.children.items) p c.in-Ok.ensures)
 
 pub place_of-requires-clause-inside : goal.place_of-requires-clause-inside
-place_of-requires-clause-inside g c =
+place_of-requires-clause-inside c =
     let p = c.program-program.ensures in
     subst (λ x. StandsInside x (OperationNode c.args.root) (OperationNode c.in-Some.op)) (sym p)
     (found_inside (world_of c.args.ctx.now) c.args.ctx.now.program c.args.root (rule_of c.args.table.now)

@@ -5,4 +5,4 @@ use Rattle.kit_verifier.proofs.signatures.results_are.Given as goal
 
 -- the types that were compared are the same
 abbrev pub invariant-loop-index : goal.invariant-loop-index
-invariant-loop-index g l = AgreeBelow (map (λ (t : TypedValue). t.ty) (results_at l.ctx.program l.op)) l.types l.index
+invariant-loop-index l = AgreeBelow (map (λ (t : TypedValue). t.ty) (results_at l.ctx.program l.op)) l.types l.index

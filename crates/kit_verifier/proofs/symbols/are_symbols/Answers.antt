@@ -9,14 +9,14 @@ use Rattle.kit_verifier.proofs.ModuleBlocks.{next_symbol, no_symbols, symbols_mo
 use Rattle.kit_verifier.proofs.symbols.are_symbols.Goals as goal
 
 pub loop-op-init : goal.loop-op-init
-loop-op-init g c = record {
+loop-op-init c = record {
   listed = c.into_iter-op-iterator.ensures.into_iter_gives ∙ c.operations-op-items.ensures.list ∙ ap (λ p. operations_in p c.args.block) c.program-program.ensures;
   names = subst (λ l. Collected (Named (world_of c.args.ctx.now) c.args.ctx.now.program) [] (texts_of l)) (sym c.new-names.ensures.empty) (collected_none (Named (world_of c.args.ctx.now) c.args.ctx.now.program));
   symbols = no_symbols (world_of c.args.ctx.now) c.args.ctx.now.program;
 }
 
 pub loop-op-preserved : goal.loop-op-preserved
-loop-op-preserved g c = record {
+loop-op-preserved c = record {
   listed = one_further (operations_in c.args.ctx.now.program c.args.block) c.loop-op.yielded c.loop-op.op-iterator c.next.new.self c.in-Some.op c.in-Some.ensures.steps c.loop-op.invariant.listed;
   names = collected_more (Named (world_of c.args.ctx.now) c.args.ctx.now.program) c.loop-op.yielded c.in-Some.op (texts_of c.loop-op.names.keys) (texts_of c.is_new_symbol.new.names.keys)
       (c.in_ok-is_new.ensures.names c.if-not-is_new.false) c.loop-op.invariant.names;
@@ -25,7 +25,7 @@ loop-op-preserved g c = record {
 }
 
 pub returns-then-not-is_new : goal.returns-then-not-is_new
-returns-then-not-is_new g c = (
+returns-then-not-is_new c = (
   λ h. absurd (true≢false (sym h)),
   λ are. absurd (true≢false
       (sym (c.in_ok-is_new.ensures.is.1
@@ -36,7 +36,7 @@ returns-then-not-is_new g c = (
 )
 
 pub returns : goal.returns
-returns g c = (
+returns c = (
   λ h. subst (AreSymbols (world_of c.args.ctx.now) c.args.ctx.now.program)
       (all_done (operations_in c.args.ctx.now.program c.args.block) c.loop-op.yielded c.loop-op.op-iterator c.in-None.ensures.steps.0 c.loop-op.invariant.listed)
       c.loop-op.invariant.symbols,

@@ -4,4 +4,4 @@ use Rattle.kit_verifier.proofs.verify.test_rules_in_order.Given as goal
 
 -- the rules that were tested are kept everywhere
 abbrev pub invariant-loop-rule : goal.invariant-loop-rule
-invariant-loop-rule g l = KeptUpTo (world_of l.ctx) l.ctx.program l.root l.rule-index
+invariant-loop-rule l = KeptUpTo (world_of l.ctx) l.ctx.program l.root l.rule-index
