@@ -25,7 +25,7 @@ use Rattle.kit_ruled_views.specs.Ruled.{KitTree}
 use Rattle.kit_text_programs.specs.SameLaws.{OneTextSaysTheSame, PassesKeepSame, SayTheSame, StandsAs, TheSameSayOneText}
 use Rattle.kit_text_programs.specs.SameLaws.{ListsOfPassesCut, TypesAreNumbered}
 use Rattle.kit_text_programs.specs.Meanings.{meanings}
-use Rattle.kit_texts.specs.Says.{says}
+use Rattle.kit.specs.Says.{says}
 use Rattle.opt_meanings.specs.Meanings.{mean_root}
 use Rattle.opt_trees.specs.Occurrences.{Has}
 use Rattle.text_dialect.specs.Seen.{Seen, seen}

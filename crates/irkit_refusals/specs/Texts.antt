@@ -17,7 +17,7 @@ use Rattle.kit_ruled_views.specs.Functions.{KitContext, KeepsRules}
 use Rattle.kit_ruled_views.specs.Ruled.{HasOwnNames, KitTree}
 use Rattle.kit_text_programs.specs.Laws.{HaveOwnNumbers}
 use Rattle.kit_text_programs.specs.RuleLaws.{HaveWrittenTypes}
-use Rattle.kit_texts.specs.Says.{says}
+use Rattle.kit.specs.Says.{says}
 use Rattle.text_dialect.specs.Seen.{seen}
 use Rattle.text_dialect.specs.Standing.{StandsForTexts}
 use Rattle.text_rereading.specs.Rereading.{Named}

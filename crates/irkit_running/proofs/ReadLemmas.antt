@@ -18,7 +18,7 @@ use Rattle.kit_language.specs.Language.{kit_language}
 use Rattle.kit_ruled_passes.specs.Entering.{IsEnteredNowhere}
 use Rattle.kit_ruled_views.specs.Functions.{KitContext, IsSelfContained}
 use Rattle.kit_ruled_views.specs.Ruled.{KitTree}
-use Rattle.kit_texts.specs.Says.{says}
+use Rattle.kit.specs.Says.{says}
 use Rattle.text_building.specs.Kept.{SameSeen}
 use Rattle.text_dialect.specs.Seen.{Seen, seen}
 use Rattle.text_frames.specs.Raised.{HoldsAllNew}

@@ -6,7 +6,7 @@ ghost use Rattle.ir_program.specs.declared.handles.Value.{Value};
 ghost use Rattle.kit_ruled_passes.specs.Held.{HoldsModule};
 ghost use Rattle.kit_optimiser.specs.Programs.{IsOrdinary};
 ghost use Rattle.kit_text_programs.specs.Laws.{HaveOwnNumbers};
-ghost use Rattle.kit_texts.specs.Says.{says};
+ghost use Rattle.kit.specs.Says.{says};
 ghost use Rattle.text_dialect.specs.Seen.{seen};
 ghost use Rattle.text_dialect.specs.Standing.{StandsForTexts};
 ghost use Rattle.text_rereading.specs.Rereading.{Named};

@@ -1,4 +1,12 @@
 pub mod Counted
+pub mod Drafted
 pub mod Equal
+pub mod Integers
+pub mod Keys
 pub mod Lessened
+pub mod Made
 pub mod Moved
+pub mod Numbered
+pub mod Parted
+pub mod Printed
+pub mod Shapes

@@ -9,29 +9,30 @@ ghost use Rattle.ir_types.specs.Interned.{KeepsTypes};
 ghost use Rattle.kit_ops.specs.declared.attributes.KitAttr.{KitAttr};
 ghost use Rattle.kit_ops.specs.declared.kinds.KitOp.{KitOp};
 ghost use Rattle.kit_ops.specs.declared.types.KitType.{KitType};
-ghost use Rattle.kit_texts.specs.Forms.{read_ops, read_types, read_attrs, op_kind, type_form, attr_form};
-ghost use Rattle.kit_texts.specs.Says.{says, values};
+ghost use Rattle.kit.specs.Forms.{read_ops, read_types, read_attrs, op_kind, type_form, attr_form};
+ghost use Rattle.kit.specs.Says.{says, values};
 ghost use Rattle.text_dialect.specs.Making as made;
 ghost use Rattle.text_dialect.specs.Seen.{SeenOperation, seen, types_of};
 ghost use Rattle.text_dialect.specs.declared.dialect.MakeFault.TheVariants.{Refused};
 
+use crate::attributes::{attribute_parts, make_attribute};
 use crate::dialect::Kit;
+use crate::formats::{
+    attribute_format, attribute_kind_at, attribute_name, operation_format, operation_kind_at,
+    operation_name, type_name,
+};
 use ir_context::Context;
 use ir_print::{Directive, Part};
 use ir_program::{Operation, Ptr};
 use kit_ops::{KitAttr, KitAttrKind, KitOp, KitType, KitTypeKind};
-use kit_texts::{
-    attribute_format, attribute_kind_at, attribute_name, attribute_parts, make_attribute,
-    operation_format, operation_kind_at, operation_name, type_name,
-};
 use std::alloc::{AllocError, Global};
 use text_dialect::{MakeFault, OperationDraft, TextDialect};
 
 impl TextDialect for Kit {
-    ghost use Rattle.kit_texts.specs.Forms as forms;
-    ghost use Rattle.kit_texts.specs.Says as said;
-    ghost use Rattle.kit_texts.specs.Agree as agree;
-    ghost use Rattle.kit_texts.specs.Readable as readable;
+    ghost use Rattle.kit.specs.Forms as forms;
+    ghost use Rattle.kit.specs.Says as said;
+    ghost use Rattle.kit.specs.Agree as agree;
+    ghost use Rattle.kit.specs.Readable as readable;
 
     ghost kind_at = { slice_get forms.read_ops };
 
@@ -60,7 +61,7 @@ impl TextDialect for Kit {
     fn type_kind_at(number: usize) -> Option<KitTypeKind>
         ensures { result ≡ slice_get read_types number }
     {
-        kit_texts::type_kind_at(number)
+        crate::formats::type_kind_at(number)
     }
 
     fn attr_kind_at(number: usize) -> Option<KitAttrKind>
@@ -86,7 +87,7 @@ impl TextDialect for Kit {
     }
 
     fn type_format(kind: KitTypeKind) -> &'static [Directive] {
-        kit_texts::type_format(kind)
+        crate::formats::type_format(kind)
     }
 
     fn attr_format(kind: KitAttrKind) -> &'static [Directive] {
@@ -98,7 +99,7 @@ impl TextDialect for Kit {
         kind: KitTypeKind,
         parts: &[Part<Kit>],
     ) -> Result<KitType, MakeFault> {
-        kit_texts::make_type(alloc, kind, parts)
+        crate::types::make_type(alloc, kind, parts)
     }
 
     fn make_attr(
@@ -116,11 +117,11 @@ impl TextDialect for Kit {
         kind: KitOp,
         parts: &[Part<Kit>],
     ) -> Result<OperationDraft<Kit>, MakeFault> {
-        kit_texts::make_operation(alloc, ctx, kind, parts)
+        crate::operations::make_operation(alloc, ctx, kind, parts)
     }
 
     fn type_parts(alloc: Global, key: &KitType) -> Result<Vec<Part<Kit>>, AllocError> {
-        kit_texts::type_parts(alloc, key)
+        crate::types::type_parts(alloc, key)
     }
 
     fn attr_parts(alloc: Global, attr: &KitAttr) -> Result<Vec<Part<Kit>>, AllocError> {
@@ -132,7 +133,7 @@ impl TextDialect for Kit {
         ctx: &Context<Kit>,
         op: Ptr<Operation>,
     ) -> Result<Vec<Part<Kit>>, AllocError> {
-        kit_texts::operation_parts(alloc, ctx, op)
+        crate::operations::operation_parts(alloc, ctx, op)
     }
 
     ghost op_ids_printed = { λ kind. refl };

@@ -4,7 +4,7 @@ use Rattle.ir_names.specs.Tree.{node, no_tree, a_tree}
 use Rattle.ir_print.specs.Pieces.{Piece, number, width, Pieces}
 use Rattle.ir_print.specs.Layout.{IsFlat, AreFlat}
 use Rattle.ir_forest.specs.Bare.{IsBare, AreBare}
-use Rattle.kit_texts.specs.Says.{canonical, canonical_number}
+use Rattle.kit.specs.Says.{canonical, canonical_number}
 
 -- it is no deeper
 number_flat : (d : ℕ) (p q : Piece) (ts : Pieces) → IsFlat d (node p ts) → IsFlat d (node (canonical_number p q) ts)

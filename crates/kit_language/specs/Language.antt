@@ -3,8 +3,8 @@ use Rattle.std.specs.Prelude.{slice_get}
 use Rattle.ir_forest.specs.Language.{Language}
 use Rattle.ir_rereading.specs.Texts.{language_of}
 use Rattle.kit_ops.specs.Table.{has_interface}
-use Rattle.kit_texts.specs.Forms.{formats, read_ops}
-use Rattle.kit_texts.specs.Says.{values}
+use Rattle.kit.specs.Forms.{formats, read_ops}
+use Rattle.kit.specs.Says.{values}
 use Rattle.text_formats.specs.Isolated.{is_isolated}
 
 -- the formats of the kinds that can be read, which of them are isolated, and what is made of pieces

@@ -26,14 +26,14 @@ use Rattle.kit_ops.specs.Keys.{symbol_name, function_type, constant_value}
 use Rattle.kit.specs.Meaning.{is_function}
 use Rattle.kit_checks.specs.Rules.{MayHave}
 use Rattle.kit_checks.specs.Words.{Every, identifier_in, type_in}
-use Rattle.kit_texts.specs.Forms.{OpForm, NamedRegion, TypedRegion, Value, TwoOperands, OneOperand, AnyOperands}
-use Rattle.kit_texts.specs.Forms.{form_of}
-use Rattle.kit_texts.specs.Numbers.{printed_number}
-use Rattle.kit_texts.specs.Says.{says, one, two, only, has_values, integer_said, said_of_attribute, said_of_module}
-use Rattle.kit_texts.specs.Says.{said_of_function}
-use Rattle.kit_texts.specs.Says.{said_of_constant, said_of_pair, said_in}
-use Rattle.kit_texts.specs.Readable.{constant_says}
-use Rattle.kit_texts.specs.Seen.{first_seen, one_seen, two_seen, three_seen}
+use Rattle.kit.specs.Forms.{OpForm, NamedRegion, TypedRegion, Value, TwoOperands, OneOperand, AnyOperands}
+use Rattle.kit.specs.Forms.{form_of}
+use Rattle.kit.specs.Numbers.{printed_number}
+use Rattle.kit.specs.Says.{says, one, two, only, has_values, integer_said, said_of_attribute, said_of_module}
+use Rattle.kit.specs.Says.{said_of_function}
+use Rattle.kit.specs.Says.{said_of_constant, said_of_pair, said_in}
+use Rattle.kit.specs.Readable.{constant_says}
+use Rattle.kit.specs.Seen.{first_seen, one_seen, two_seen, three_seen}
 use Rattle.kit_views.specs.Reading.{number_in}
 use Rattle.kit_text_programs.proofs.SaidHeads.{said_parts, bits_shown}
 use Rattle.kit_text_programs.proofs.SaidPrograms.{name_said, bits_said}

@@ -24,8 +24,8 @@ use Rattle.kit.specs.Meaning.{KitOperation, KitBlock}
 use Rattle.kit_ops.specs.declared.attributes.KitAttr.{KitAttr}
 use Rattle.kit_ops.specs.declared.kinds.KitOp.{KitOp}
 use Rattle.kit_ops.specs.declared.kinds.KitOp.TheVariants as ops
-use Rattle.kit_texts.specs.Forms.{number_of, read_ops}
-use Rattle.kit_texts.specs.Says.{says}
+use Rattle.kit.specs.Forms.{number_of, read_ops}
+use Rattle.kit.specs.Says.{says}
 use Rattle.kit_behaviour.specs.Machine.{Arith, Calculated, Compared, Plain, Nonzero, Cases}
 use Rattle.kit_behaviour.specs.Machine.{Op, Const, Calc, Emit, Call, Branch, Return, Block, Fun, left_in, arguments_in}
 use Rattle.kit_behaviour.specs.Numbering.{AnyBlock}
@@ -38,7 +38,7 @@ use Rattle.kit_text_programs.specs.Laws.{HaveOwnNumbers}
 use Rattle.kit_text_programs.proofs.SaidPrograms.{width_said, bits_said, first_in, second_in, op_said, numbers_in}
 use Rattle.kit_text_programs.proofs.SaidPrograms.{widths_in, ops_said, fun_said}
 use Rattle.kit_text_programs.proofs.ValueNumbers.{number_of_value, HasNumber, number_is}
-use Rattle.kit_texts.specs.Readable.{numbered_kind}
+use Rattle.kit.specs.Readable.{numbered_kind}
 use Rattle.kit_text_programs.proofs.SaidHeads.{said_parts, width_shown, bits_shown}
 use Rattle.kit_text_programs.proofs.Unlabelled.{HasSomeLabel}
 

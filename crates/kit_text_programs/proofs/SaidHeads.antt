@@ -24,12 +24,12 @@ use Rattle.kit_ops.specs.declared.types.KitType.{KitType}
 use Rattle.kit_ops.specs.declared.types.KitType.TheVariants as types
 use Rattle.kit_ops.specs.Keys.{symbol_name, function_type, constant_value}
 use Rattle.kit.specs.Meaning.{is_function, is_module}
-use Rattle.kit_texts.specs.Forms.{OpForm, NamedRegion, TypedRegion, Value, form_of, number_of}
-use Rattle.kit_texts.specs.Numbers.{number_modulo, is_below_zero, printed_number}
-use Rattle.kit_texts.specs.Says.{says, one, two, only, types_said, integer_said, said_of_type, said_of_attribute}
-use Rattle.kit_texts.specs.Says.{said_of_module, said_of_function, said_of_constant, said_in, numbered, has_values}
-use Rattle.kit_texts.specs.Readable.{constant_says, numbered_kind}
-use Rattle.kit_texts.specs.Seen.{seen, none_seen, first_seen, one_seen, two_seen}
+use Rattle.kit.specs.Forms.{OpForm, NamedRegion, TypedRegion, Value, form_of, number_of}
+use Rattle.kit.specs.Numbers.{number_modulo, is_below_zero, printed_number}
+use Rattle.kit.specs.Says.{says, one, two, only, types_said, integer_said, said_of_type, said_of_attribute}
+use Rattle.kit.specs.Says.{said_of_module, said_of_function, said_of_constant, said_in, numbered, has_values}
+use Rattle.kit.specs.Readable.{constant_says, numbered_kind}
+use Rattle.kit.specs.Seen.{seen, none_seen, first_seen, one_seen, two_seen}
 use Rattle.kit_views.specs.Reading.{number_in, integer_of}
 use Rattle.kit_ruled_views.specs.Paths.{is_name}
 use Rattle.kit_text_programs.proofs.SaidPrograms.{width_said, bits_said, name_said, passes, is_called}

@@ -20,7 +20,7 @@ use Rattle.text_rereading.specs.Rereading.{Named}
 use Rattle.kit.specs.Meaning.{KitOperation, is_function, is_module}
 use Rattle.kit_ops.specs.declared.attributes.KitAttr.{KitAttr}
 use Rattle.kit_ops.specs.declared.kinds.KitOp.{KitOp}
-use Rattle.kit_texts.specs.Says.{says}
+use Rattle.kit.specs.Says.{says}
 use Rattle.kit_behaviour.specs.Machine.{Fun, FunctionsByPath}
 use Rattle.kit_behaviour.specs.Numbering.{place_fun}
 use Rattle.kit_behaviour.specs.Places.{Place}

@@ -7,8 +7,8 @@ use Rattle.ir_print.specs.Pieces.{operation, a_region, block, Entity, entity, En
 use Rattle.kit_ops.specs.declared.kinds.KitOp.{KitOp}
 use Rattle.kit_ops.specs.declared.kinds.KitOp.TheVariants as ops
 use Rattle.kit.specs.Meaning.{is_function, is_module}
-use Rattle.kit_texts.specs.Forms.{read_ops}
-use Rattle.kit_texts.specs.Numbers.{number_modulo}
+use Rattle.kit.specs.Forms.{read_ops}
+use Rattle.kit.specs.Numbers.{number_modulo}
 use Rattle.kit_behaviour.specs.Machine.{Calculated, Compared}
 use Rattle.kit_behaviour.specs.Machine.{Op, Const, Calc, Emit, Return, Fun, FunctionsByPath}
 use Rattle.kit_behaviour.specs.Numbering.{place_fun}

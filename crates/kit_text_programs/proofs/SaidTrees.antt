@@ -23,14 +23,14 @@ use Rattle.text_rereading.specs.Rereading.{Named}
 use Rattle.kit.specs.Meaning.{KitOperation, KitBlock}
 use Rattle.kit_ops.specs.declared.attributes.KitAttr.{KitAttr}
 use Rattle.kit_ops.specs.declared.kinds.KitOp.{KitOp}
-use Rattle.kit_texts.specs.Forms.{number_of}
-use Rattle.kit_texts.specs.Says.{says}
+use Rattle.kit.specs.Forms.{number_of}
+use Rattle.kit.specs.Says.{says}
 use Rattle.kit_checks.specs.Rules.{IsCommon}
 use Rattle.kit_checks.specs.Words.{Every, integer_in}
 use Rattle.kit_checks.specs.World.{Attributes, world_of}
 use Rattle.kit_writable_trees.specs.Laws.{WritableContext, WritableTree}
 use Rattle.kit_text_programs.specs.Laws.{HaveOwnNumbers}
-use Rattle.kit_texts.specs.Readable.{numbered_kind}
+use Rattle.kit.specs.Readable.{numbered_kind}
 use Rattle.kit_text_programs.proofs.SaidHeads.{said_parts}
 use Rattle.kit_text_programs.proofs.SaidFunctions.{KitPart, same_operation, same_label, same_region}
 use Rattle.kit_text_programs.proofs.Unlabelled.{HasSomeLabel}

@@ -16,8 +16,8 @@ use Rattle.kit_ops.specs.declared.types.IntegerType.{IntegerType}
 use Rattle.kit_ops.specs.declared.types.KitType.{KitType}
 use Rattle.kit_ops.specs.declared.types.KitType.TheVariants as types
 use Rattle.kit_checks.specs.Words.{integer_of, function_of}
-use Rattle.kit_texts.specs.Says.{says, one, two, only, types_said, said_of_type}
-use Rattle.kit_texts.specs.Seen.{one_seen}
+use Rattle.kit.specs.Says.{says, one, two, only, types_said, said_of_type}
+use Rattle.kit.specs.Seen.{one_seen}
 use Rattle.kit_text_programs.specs.Alike.{AreBoth}
 use Rattle.kit_text_programs.specs.Same.{HaveOwnHandles, AreSameTypes, none, integers, functions, units, IsSameType}
 

@@ -13,7 +13,7 @@ use Rattle.text_dialect.specs.Standing.{StandsForTexts}
 use Rattle.text_rereading.specs.Rereading.{Named}
 use Rattle.kit_behaviour.specs.Machine.{FunctionsByPath}
 use Rattle.kit_behaviour.specs.Places.{Place}
-use Rattle.kit_texts.specs.Says.{says}
+use Rattle.kit.specs.Says.{says}
 use Rattle.kit_ruled_views.specs.Programs.{IsProgramOf}
 use Rattle.kit_writable_trees.specs.Laws.{WritableContext, WritableTree}
 

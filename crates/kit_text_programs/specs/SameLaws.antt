@@ -19,7 +19,7 @@ use Rattle.kit_ops.specs.declared.types.KitType.{KitType}
 use Rattle.kit_ruled_views.specs.Ruled.{HasOwnNames}
 use Rattle.kit_text_programs.specs.Laws.{HaveOwnNumbers}
 use Rattle.kit_text_programs.specs.RuleLaws.{HasOneHandleEach}
-use Rattle.kit_texts.specs.Says.{says}
+use Rattle.kit.specs.Says.{says}
 use Rattle.kit_writable_trees.specs.Laws.{WritableContext, WritableTree}
 use Rattle.opt_meanings.specs.Meanings.{Bijection, IsMeant, mean_root, worded}
 use Rattle.opt_trees.specs.Occurrences.{Has}

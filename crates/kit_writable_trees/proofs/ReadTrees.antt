@@ -21,7 +21,7 @@ use Rattle.kit.specs.Meaning.{KitOperation, KitBlock}
 use Rattle.kit_language.specs.Language.{kit_language}
 use Rattle.kit_ops.specs.declared.attributes.KitAttr.{KitAttr}
 use Rattle.kit_ops.specs.declared.kinds.KitOp.{KitOp}
-use Rattle.kit_texts.specs.Says.{says, values}
+use Rattle.kit.specs.Says.{says, values}
 use Rattle.kit_writable_trees.specs.Laws.{WritableContext, WritableTree}
 use Rattle.kit_writable_trees.specs.Writable.{types_in, count_of, label_text, labels_in, IsWritableHead, IsWritable, IsWritableRoot}
 

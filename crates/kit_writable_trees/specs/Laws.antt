@@ -15,7 +15,7 @@ use Rattle.kit.specs.declared.dialect.Unused.{Unused}
 use Rattle.kit.specs.Meaning.{KitOperation, KitBlock}
 use Rattle.kit_language.specs.Language.{kit_language}
 use Rattle.kit_ops.specs.declared.types.KitType.{KitType}
-use Rattle.kit_texts.specs.Says.{says}
+use Rattle.kit.specs.Says.{says}
 use Rattle.kit_writable_trees.specs.Writable.{IsWritableRoot}
 
 -- what is seen of a context of `kit`

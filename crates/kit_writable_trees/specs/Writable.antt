@@ -14,7 +14,7 @@ use Rattle.ir_trees.specs.Names.{Names}
 use Rattle.ir_trees.specs.Trees.{Defined, Head, Label, Sort, Blocks, Regions, Tree, end, operation, block, region, Root}
 use Rattle.kit_ops.specs.declared.attributes.KitAttr.{KitAttr}
 use Rattle.kit_ops.specs.declared.types.KitType.{KitType}
-use Rattle.kit_texts.specs.Says.{says, values}
+use Rattle.kit.specs.Says.{says, values}
 use Rattle.kit_views.specs.Reading.{kit_contents}
 
 -- what is said of these definitions: their types

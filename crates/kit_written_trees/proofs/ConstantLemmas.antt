@@ -16,9 +16,9 @@ use Rattle.kit_ops.specs.declared.kinds.KitOp.TheVariants as ops
 use Rattle.kit_ops.specs.declared.types.IntegerType.{IntegerType}
 use Rattle.kit_ops.specs.declared.types.KitType.{KitType}
 use Rattle.kit_ops.specs.declared.types.KitType.TheVariants as keys
-use Rattle.kit_texts.specs.Numbers.{printed_number}
-use Rattle.kit_texts.specs.Readable.{constant_said_so}
-use Rattle.kit_texts.specs.Says.{one, only, integer_said, has_values, said_of_attribute, said_of_type}
+use Rattle.kit.specs.Numbers.{printed_number}
+use Rattle.kit.specs.Readable.{constant_said_so}
+use Rattle.kit.specs.Says.{one, only, integer_said, has_values, said_of_attribute, said_of_type}
 use Rattle.kit_writable_trees.specs.Writable.{IsWritableHead}
 use Rattle.opt_trees.specs.Sccp.{constant_head}
 use Rattle.opt_trees.proofs.Lists.{some_same, none_some}

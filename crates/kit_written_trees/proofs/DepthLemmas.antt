@@ -6,8 +6,8 @@ use Rattle.ir_print.specs.Layout.{Deeper, IsFlat, AreFlat}
 use Rattle.ir_print.specs.Pieces.{type_of_kind, attribute_of_kind, list, item, operands, region, name, number, width, ValueTree, Pieces}
 use Rattle.ir_print.specs.Shown.{Pairs, ShowsType}
 use Rattle.kit_ops.specs.declared.types.KitType.{KitType}
-use Rattle.kit_texts.specs.Forms.{OpForm, NamedRegion, TypedRegion, Value, TwoOperands, OneOperand, AnyOperands}
-use Rattle.kit_texts.specs.Says.{says, integer_types, constant_types, pair_types, result_types_by}
+use Rattle.kit.specs.Forms.{OpForm, NamedRegion, TypedRegion, Value, TwoOperands, OneOperand, AnyOperands}
+use Rattle.kit.specs.Says.{says, integer_types, constant_types, pair_types, result_types_by}
 
 -- it is one more than this
 abbrev pub IsAbove : ℕ → Type 0

@@ -12,7 +12,7 @@ use Rattle.kit_ops.specs.declared.attributes.KitAttr.{KitAttr}
 use Rattle.kit_ops.specs.declared.kinds.KitOp.{KitOp}
 use Rattle.kit_ops.specs.declared.kinds.KitOp.TheVariants as ops
 use Rattle.kit_ops.specs.declared.types.KitType.{KitType}
-use Rattle.kit_texts.specs.Says.{says, said_of_operation}
+use Rattle.kit.specs.Says.{says, said_of_operation}
 use Rattle.kit_views.specs.Reading.{kit_contents}
 use Rattle.kit_writable_trees.specs.Writable.{types_in, IsWritableHead, IsWritable}
 use Rattle.opt_trees.specs.Occurrences.{Has, Inside, Occurrence, inner, next_block, next_region, occurrences_in}

@@ -8,7 +8,7 @@ use Rattle.ir_trees.specs.Trees.{Defined}
 use Rattle.kit_ops.specs.declared.types.KitType.{KitType}
 use Rattle.kit_pass_rules.proofs.Lists.{has_at_index, index_of_has}
 use Rattle.kit_pass_rules.proofs.Thin.{dropped_at}
-use Rattle.kit_texts.specs.Says.{says}
+use Rattle.kit.specs.Says.{says}
 use Rattle.kit_writable_trees.specs.Writable.{types_in, AreWritten}
 use Rattle.opt_trees.specs.Dialect.{drop}
 use Rattle.opt_trees.specs.Occurrences.{Has}

@@ -24,7 +24,7 @@ use Rattle.kit_pass_rules.proofs.Located.{located, located_block}
 use Rattle.kit_pass_rules.proofs.SccpCame.{body_in}
 use Rattle.kit_pass_rules.proofs.SccpLaw.{fits}
 use Rattle.kit_pass_rules.proofs.Walk.{OccurrenceOf, BlockOf, child_of}
-use Rattle.kit_texts.specs.Says.{says, form_at}
+use Rattle.kit.specs.Says.{says, form_at}
 use Rattle.kit_views.specs.Reading.{kit_contents}
 use Rattle.kit_written_trees.specs.PassLaws.{leads_by, SccpStaysWritable}
 use Rattle.kit_written_trees.proofs.ConstantLemmas.{IsNumber, key_of, constant_writable}

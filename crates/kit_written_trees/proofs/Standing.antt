@@ -17,7 +17,7 @@ use Rattle.opt_trees.specs.Occurrences.{Has}
 use Rattle.text_dialect.specs.Seen.{seen, seen_operation, seen_block, types_of}
 use Rattle.text_dialect.specs.Standing.{HasDefinition, HasHead, HasOwnLabel, IsLabel, HaveRegionTrees, HaveBlockTrees, HaveTrees}
 use Rattle.kit.specs.Meaning.{KitOperation}
-use Rattle.kit_texts.specs.Says.{says}
+use Rattle.kit.specs.Says.{says}
 use Rattle.kit_writable_trees.specs.Laws.{WritableContext}
 use Rattle.kit_writable_trees.specs.Writable.{types_in, count_of, IsWritableHead, IsWritable}
 use Rattle.kit_written_trees.proofs.Known.{KnownAll}

@@ -20,9 +20,9 @@ use Rattle.text_rereading.specs.Rereading.{Named}
 use Rattle.kit.specs.Meaning.{KitOperation, KitBlock}
 use Rattle.kit_language.specs.Language.{kit_language}
 use Rattle.kit_ruled_passes.specs.Scopes.{IsNone, Scoped}
-use Rattle.kit_texts.specs.Says.{says, values}
-use Rattle.kit_texts.specs.Forms.{formats}
-use Rattle.kit_texts.specs.Readable.{says_types, says_attributes, says_operations}
+use Rattle.kit.specs.Says.{says, values}
+use Rattle.kit.specs.Forms.{formats}
+use Rattle.kit.specs.Readable.{says_types, says_attributes, says_operations}
 use Rattle.kit_writable_trees.specs.Laws.{WritableContext, WritableTree}
 use Rattle.kit_writable_trees.specs.Writable.{count_of, IsWritableHead, IsWritableRoot}
 use Rattle.kit_views.proofs.Lists.{has_get}

@@ -15,7 +15,7 @@ use Rattle.ir_trees.specs.Trees as tree
 use Rattle.kit.specs.Meaning.{KitOperation, KitBlock}
 use Rattle.kit_checks.specs.Sites.{Listed}
 use Rattle.kit_ops.specs.declared.types.KitType.{KitType}
-use Rattle.kit_texts.specs.Says.{values}
+use Rattle.kit.specs.Says.{values}
 use Rattle.kit_writable_trees.specs.Writable.{types_in, count_of, label_text, labels_in, IsWritableHead, IsWritableLabel, IsWritable}
 
 -- parts of trees of `kit`

@@ -20,8 +20,8 @@ use Rattle.kit.specs.Meaning.{KitOperation, KitBlock}
 use Rattle.kit_ops.specs.declared.kinds.KitOp.{KitOp}
 use Rattle.kit_ops.specs.declared.kinds.KitOp.TheVariants as ops
 use Rattle.kit_ops.specs.declared.types.KitType.{KitType}
-use Rattle.kit_texts.specs.Says.{says}
-use Rattle.kit_texts.specs.Readable.{numbered_kind}
+use Rattle.kit.specs.Says.{says}
+use Rattle.kit.specs.Readable.{numbered_kind}
 use Rattle.kit_text_programs.proofs.SaidHeads.{said_parts}
 use Rattle.kit_text_programs.proofs.SaidPrograms.{numbers_in}
 use Rattle.kit_text_programs.proofs.AlikeLists.{pairs_joined}

@@ -26,10 +26,10 @@ use Rattle.kit_ops.specs.declared.kinds.KitOp.TheVariants as ops
 use Rattle.kit_ops.specs.declared.types.KitType.{KitType}
 use Rattle.kit_ops.specs.Keys.{symbol_name, function_type, constant_value}
 use Rattle.kit_checks.specs.Words.{identifier_in, type_in}
-use Rattle.kit_texts.specs.Forms.{OpForm, NamedRegion, TypedRegion, TwoOperands, OneOperand, AnyOperands, form_of}
-use Rattle.kit_texts.specs.Forms as forms
-use Rattle.kit_texts.specs.Says.{says, only, said_in, said_of_module, said_of_function, said_of_constant, said_of_pair}
-use Rattle.kit_texts.specs.Seen.{seen}
+use Rattle.kit.specs.Forms.{OpForm, NamedRegion, TypedRegion, TwoOperands, OneOperand, AnyOperands, form_of}
+use Rattle.kit.specs.Forms as forms
+use Rattle.kit.specs.Says.{says, only, said_in, said_of_module, said_of_function, said_of_constant, said_of_pair}
+use Rattle.kit.specs.Seen.{seen}
 use Rattle.kit_text_programs.proofs.SaidHeads.{said_parts}
 use Rattle.kit_text_programs.proofs.SaidPrograms.{name_said, bits_said}
 use Rattle.kit_text_programs.proofs.ReadHeads.{Entries, SaidTrees, type_read, integer_read, IsRead, read}

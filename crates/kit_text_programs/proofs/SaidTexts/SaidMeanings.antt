@@ -12,7 +12,7 @@ use Rattle.kit_ops.specs.declared.kinds.KitOp.{KitOp}
 use Rattle.kit_ops.specs.declared.kinds.KitOp.TheVariants as ops
 use Rattle.kit_ops.specs.declared.types.IntegerType.{IntegerType}
 use Rattle.kit_ops.specs.Keys.{symbol_name, function_type, constant_value}
-use Rattle.kit_texts.specs.Forms.{read_ops}
+use Rattle.kit.specs.Forms.{read_ops}
 use Rattle.kit_text_programs.proofs.SaidPrograms.{name_said, bits_said, numbers_in}
 use Rattle.kit_text_programs.proofs.ReadHeads.{type_read, integer_read}
 use Rattle.kit_text_programs.specs.Meanings.{Attribute, Integer, Name, OfType, OperationMeaning, sayings, alone_at}

@@ -20,7 +20,7 @@ use Rattle.opt_trees.specs.Occurrences.{Has}
 use Rattle.text_dialect.specs.Seen.{seen}
 use Rattle.text_rereading.specs.Rereading.{Named}
 use Rattle.kit_ruled_views.specs.Ruled.{HasOwnNames}
-use Rattle.kit_texts.specs.Says.{says}
+use Rattle.kit.specs.Says.{says}
 use Rattle.kit_views.specs.Reading.{kit_contents}
 use Rattle.kit_writable_trees.specs.Laws.{WritableContext, WritableTree}
 use Rattle.kit_text_programs.proofs.SaidFunctions.{KitPart}

@@ -26,10 +26,10 @@ use Rattle.kit_ops.specs.declared.attributes.KitAttr.{KitAttr}
 use Rattle.kit_ops.specs.declared.attributes.KitAttr.TheVariants as attrs
 use Rattle.kit_ops.specs.declared.types.KitType.{KitType}
 use Rattle.kit_ops.specs.Keys.{symbol_name, function_type, constant_value}
-use Rattle.kit_texts.specs.Forms.{OpForm, NamedRegion, TypedRegion, Value, TwoOperands, OneOperand, AnyOperands}
-use Rattle.kit_texts.specs.Forms.{form_of, number_of}
-use Rattle.kit_texts.specs.Says.{says, one, two}
-use Rattle.kit_texts.specs.Seen.{seen}
+use Rattle.kit.specs.Forms.{OpForm, NamedRegion, TypedRegion, Value, TwoOperands, OneOperand, AnyOperands}
+use Rattle.kit.specs.Forms.{form_of, number_of}
+use Rattle.kit.specs.Says.{says, one, two}
+use Rattle.kit.specs.Seen.{seen}
 use Rattle.kit_text_programs.proofs.SaidHeads.{said_parts}
 use Rattle.kit_text_programs.specs.SameLaws.{types_among}
 use Rattle.kit_text_programs.specs.Meanings.{Attribute, Integer, Name, OfType, OperationMeaning, Number, number_meant}

@@ -23,7 +23,7 @@ use Rattle.kit.specs.Meaning.{KitOperation}
 use Rattle.kit_language.specs.Language.{kit_language}
 use Rattle.kit_ops.specs.declared.attributes.KitAttr.{KitAttr}
 use Rattle.kit_ops.specs.declared.kinds.KitOp.{KitOp}
-use Rattle.kit_texts.specs.Says.{says}
+use Rattle.kit.specs.Says.{says}
 use Rattle.kit_writable_trees.specs.Laws.{WritableContext, WritableTree}
 use Rattle.kit_text_programs.proofs.SaidFunctions.{same_operation}
 use Rattle.kit_text_programs.specs.SameLaws.{HaveTextNumbers, NumbersApart, SayTheSame, StandsAs, TheSameSayOneText}

@@ -17,12 +17,12 @@ use Rattle.kit_ops.specs.declared.attributes.KitAttr.{KitAttr}
 use Rattle.kit_ops.specs.declared.attributes.KitAttr.TheVariants as attrs
 use Rattle.kit_ops.specs.declared.types.KitType.{KitType}
 use Rattle.kit_ops.specs.Keys.{symbol_name, function_type, constant_value}
-use Rattle.kit_texts.specs.Forms.{OpForm, NamedRegion, TypedRegion, Value, TwoOperands, OneOperand, AnyOperands}
-use Rattle.kit_texts.specs.Numbers.{printed_number}
-use Rattle.kit_texts.specs.Readable.{constant_says}
-use Rattle.kit_texts.specs.Says.{says, one, two, only, has_values, integer_said, said_of_attribute, said_of_module}
-use Rattle.kit_texts.specs.Says.{said_of_function, said_of_constant, pair_said, said_of_pair, said_in}
-use Rattle.kit_texts.specs.Seen.{SeenPiece, one_seen, two_seen, three_seen}
+use Rattle.kit.specs.Forms.{OpForm, NamedRegion, TypedRegion, Value, TwoOperands, OneOperand, AnyOperands}
+use Rattle.kit.specs.Numbers.{printed_number}
+use Rattle.kit.specs.Readable.{constant_says}
+use Rattle.kit.specs.Says.{says, one, two, only, has_values, integer_said, said_of_attribute, said_of_module}
+use Rattle.kit.specs.Says.{said_of_function, said_of_constant, pair_said, said_of_pair, said_in}
+use Rattle.kit.specs.Seen.{SeenPiece, one_seen, two_seen, three_seen}
 
 -- attributes under names
 abbrev pub Entries : Type 0

@@ -8,9 +8,9 @@ use Rattle.ir_print.specs.Pieces.{type_of_kind, attribute_of_kind, list, item, o
 use Rattle.ir_print.specs.Pieces.{ValueTree, Pieces, operation, a_region, block, Entity, entity, Entities, no_entity}
 use Rattle.ir_print.specs.Pieces.{an_entity}
 use Rattle.kit_language.specs.Language.{kit_language}
-use Rattle.kit_texts.specs.Forms.{OpForm, NamedRegion, TypedRegion, Value, TwoOperands, OneOperand, AnyOperands}
-use Rattle.kit_texts.specs.Says.{values, form_at, integer_types, constant_types, pair_types, result_types_in}
-use Rattle.kit_texts.specs.Says.{result_types_by}
+use Rattle.kit.specs.Forms.{OpForm, NamedRegion, TypedRegion, Value, TwoOperands, OneOperand, AnyOperands}
+use Rattle.kit.specs.Says.{values, form_at, integer_types, constant_types, pair_types, result_types_in}
+use Rattle.kit.specs.Says.{result_types_by}
 use Rattle.opt_trees.specs.Occurrences.{Has}
 use Rattle.opt_trees.proofs.NoneDead.{has-append}
 use Rattle.kit_text_programs.specs.SameLaws.{types_among, types_in_text, types_in_texts}

@@ -13,7 +13,7 @@ use Rattle.kit_text_programs.proofs.SameTypes.{type_same, lists_meet}
 use Rattle.kit_text_programs.proofs.WrittenTypes.{own_handles}
 use Rattle.kit.specs.declared.dialect.Unused.{Unused}
 use Rattle.kit_ops.specs.declared.types.KitType.{KitType}
-use Rattle.kit_texts.specs.Says.{says}
+use Rattle.kit.specs.Says.{says}
 use Rattle.kit_writable_trees.specs.Laws.{WritableContext, WritableTree}
 use Rattle.opt_meanings.specs.Meanings.{Bijection}
 use Rattle.opt_meanings.proofs.Permuted.{Permutation, permutation}

@@ -9,7 +9,7 @@ use Rattle.ir_print.specs.Pieces.{Piece, type_of_kind, attribute_of_kind, list, 
 use Rattle.ir_print.specs.Pieces.{ValueTree, Pieces}
 use Rattle.ir_print.specs.Shown.{Said, said_type, said_attribute, said_list, said_item, said_operands, said_region, said_name}
 use Rattle.ir_print.specs.Shown.{said_number, said_width, leaf, Saying, Shows, ShowsAll}
-use Rattle.kit_texts.specs.Seen.{seen}
+use Rattle.kit.specs.Seen.{seen}
 
 -- of one piece, with what stands below it
 same_node : (p q : Piece) (ts us : Pieces) → p ≡ q → ts ≡ us → node p ts ≡ node q us

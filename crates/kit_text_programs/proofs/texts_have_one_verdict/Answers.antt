@@ -1,7 +1,7 @@
 use Rattle.std.proofs.Common.{ℕ, subst, sym}
 use Rattle.ir_forest.specs.Closed.{unlabelled}
 use Rattle.ir_print.specs.Pieces.{Entity}
-use Rattle.kit_texts.specs.Says.{says}
+use Rattle.kit.specs.Says.{says}
 use Rattle.text_dialect.specs.Seen.{seen}
 use Rattle.text_dialect.specs.Standing.{HasTree}
 use Rattle.text_rereading.specs.Rereading.{Named}

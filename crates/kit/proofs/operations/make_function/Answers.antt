@@ -1,0 +1,39 @@
+use Rattle.kit.specs.Making.{RefusesForm}
+use Rattle.std.proofs.lemmas.Result.{IfOk-from_err}
+use Rattle.kit.proofs.Made.{refused_at, memory_refuses_none}
+use Rattle.std.proofs.Common.{sym, ap, ◌∙◌}
+use Rattle.ir_names.specs.Dictionary.{with_attribute}
+use Rattle.kit_ops.specs.declared.attributes.KitAttr.TheVariants as attrs
+use Rattle.kit.specs.Forms.{TypedRegion}
+use Rattle.kit_ops.specs.Keys.{symbol_name, function_type}
+use Rattle.kit.proofs.Drafted.{drafted, function_made, function_refused}
+use Rattle.kit.proofs.operations.make_function.Goals as goal
+
+pub returns-clause-made : goal.returns-clause-made
+returns-clause-made c = λ types. drafted TypedRegion c.args.parts.now types types _ _ _ _ (function_made c.args.parts.now c.in-Some.name.now c.in_ok-try_clone.field-0 c.in-Some.ty types (sym c.in-Some.ensures) c.in_ok-try_clone.ensures)
+    (c.draft.ensures.attributes ∙ (c.in_ok-add_entry.ensures ∙ ap (λ entries. with_attribute entries function_type (attrs.«Type» c.in-Some.ty)) c.in_ok-attributes.ensures))
+    (ap (λ v. v.items) c.draft.ensures.types ∙ c.new.ensures.items)
+
+pub returns-clause-refused : goal.returns-clause-refused
+returns-clause-refused c = λ i e types. cc
+
+pub returns-in_default-clause-refused : goal.returns-in_default-clause-refused
+returns-in_default-clause-refused c = λ i e types. refused_at (λ j. RefusesForm TypedRegion c.args.parts.now types j) 0 (function_refused c.args.parts.now types (sym c.in_default.ensures)) i e
+
+pub returns-in_err-attributes-clause-refused : goal.returns-in_err-attributes-clause-refused
+returns-in_err-attributes-clause-refused c = λ i e. memory_refuses_none c.from_residual-in_err-attributes.result c.from_residual-in_err-attributes.ensures.1 i e
+
+pub returns-in_err-attributes-clause-made : goal.returns-in_err-attributes-clause-made
+returns-in_err-attributes-clause-made c = IfOk-from_err _ _ c.from_residual-in_err-attributes.ensures.0
+
+pub returns-in_err-add_entry-clause-refused : goal.returns-in_err-add_entry-clause-refused
+returns-in_err-add_entry-clause-refused c = λ i e. memory_refuses_none c.from_residual-in_err-add_entry.result c.from_residual-in_err-add_entry.ensures.1 i e
+
+pub returns-in_err-add_entry-clause-made : goal.returns-in_err-add_entry-clause-made
+returns-in_err-add_entry-clause-made c = IfOk-from_err _ _ c.from_residual-in_err-add_entry.ensures.0
+
+pub returns-in_err-try_clone-clause-refused : goal.returns-in_err-try_clone-clause-refused
+returns-in_err-try_clone-clause-refused c = λ i e. memory_refuses_none c.from_residual.result c.from_residual.ensures.1 i e
+
+pub returns-in_err-try_clone-clause-made : goal.returns-in_err-try_clone-clause-made
+returns-in_err-try_clone-clause-made c = IfOk-from_err _ _ c.from_residual.ensures.0

@@ -1,0 +1,87 @@
+-- What is made of parts.
+use Rattle.std.specs.Prelude.{◌≡◌, ℕ, ◌&&◌, List, [], ◌∷◌, Option, Some, None, option_map, option_and_then, cond, Vec}
+use Rattle.std.specs.Global.{Global}
+use Rattle.ir_base.specs.declared.types.TypeHandle.{TypeHandle}
+use Rattle.ir_names.specs.declared.identifier.Identifier.{Identifier}
+use Rattle.ir_names.specs.Tree.{Trees}
+use Rattle.ir_print.specs.declared.format.Part.{Part}
+use Rattle.ir_print.specs.Pieces.{Pieces}
+use Rattle.ir_print.specs.Shown.{Said, Pairs, ShowsAll, ShowsType, ShowsParts, ShowsKey, operands_said}
+use Rattle.kit_ops.specs.declared.kinds.KitOp.{KitOp}
+use Rattle.kit_ops.specs.declared.types.IntegerType.{IntegerType}
+use Rattle.kit_ops.specs.declared.types.KitType.{KitType}
+use Rattle.kit_ops.specs.declared.attributes.IntegerAttr.{IntegerAttr}
+use Rattle.kit_ops.specs.declared.attributes.KitAttr.{KitAttr}
+use Rattle.kit.specs.Forms.{OpForm}
+use Rattle.kit.specs.Parts.{type_part, integer_part, list_part, name_part, region_part, attribute_part, operands_part, is_one_operand, integer_of}
+use Rattle.kit.specs.Says.{says, said_in, refused_type, refused_in, result_types_in}
+
+module _ {D : Type 0} where
+  -- the type that parts are, if they are one
+  abbrev pub one_type : List (Part D KitOp KitAttr KitType) → Option TypeHandle
+  one_type (p ∷ []) = type_part p
+  one_type _ = None
+
+  -- the integer type that parts are, if they are one width
+  abbrev pub one_integer_type : List (Part D KitOp KitAttr KitType) → Option IntegerType
+  one_integer_type (p ∷ []) = integer_part p
+  one_integer_type _ = None
+
+  -- the two lists that parts are, if they are two
+  abbrev pub two_lists : List (Part D KitOp KitAttr KitType) → Option (Vec (Vec (Part D KitOp KitAttr KitType) Global) Global × Vec (Vec (Part D KitOp KitAttr KitType) Global) Global)
+  two_lists (p ∷ q ∷ []) = option_and_then (λ ms. option_map (λ ns. (ms, ns)) (list_part q)) (list_part p)
+  two_lists _ = None
+
+  -- the name of parts that are a name and a region
+  abbrev pub module_name : List (Part D KitOp KitAttr KitType) → Option Identifier
+  module_name (p ∷ q ∷ []) = option_and_then (λ u. name_part p) (region_part q)
+  module_name _ = None
+
+  -- the name and the type of parts that are a name, a type and a region
+  abbrev pub function_header : List (Part D KitOp KitAttr KitType) → Option (Identifier × TypeHandle)
+  function_header (p ∷ q ∷ r ∷ []) = option_and_then (λ id. option_and_then (λ ty. option_map (λ u. (id, ty)) (region_part r)) (type_part q)) (name_part p)
+  function_header _ = None
+
+  -- the integer that parts are, if they are one
+  abbrev pub one_integer : List (Part D KitOp KitAttr KitType) → Option IntegerAttr
+  one_integer (p ∷ []) = option_and_then integer_of (attribute_part p)
+  one_integer _ = None
+
+  -- the number of operands that parts are, if they are operands
+  abbrev pub one_operands : List (Part D KitOp KitAttr KitType) → Option ℕ
+  one_operands (p ∷ []) = operands_part p
+  one_operands _ = None
+
+  -- the type of parts that are two operands and a type
+  abbrev pub pair_type : List (Part D KitOp KitAttr KitType) → Option TypeHandle
+  pair_type (p ∷ q ∷ r ∷ []) = cond (is_one_operand p && is_one_operand q) (type_part r) None
+  pair_type _ = None
+
+  -- the types that the members of a list are, if each is one
+  abbrev pub each_type : List (Vec (Part D KitOp KitAttr KitType) Global) → Option (List TypeHandle)
+  each_type [] = Some []
+  each_type (m ∷ ms) = option_and_then (λ ty. option_map (λ tys. ty ∷ tys) (each_type ms)) (one_type m.items)
+
+  -- the parts give this type, of the kind with the number
+  abbrev pub MakesTypeOfKind : ℕ → List (Part D KitOp KitAttr KitType) → KitType → Type 0
+  MakesTypeOfKind n parts key = (types : List KitType) (ps : Pieces) → ShowsParts says types parts ps → (refused_type n ps ≡ None) × ShowsKey says types key n ps
+
+  -- the parts give no type of the kind with the number: this part is refused
+  abbrev pub RefusesTypeOfKind : ℕ → List (Part D KitOp KitAttr KitType) → ℕ → Type 0
+  RefusesTypeOfKind n parts i = (types : List KitType) (ps : Pieces) → ShowsParts says types parts ps → refused_type n ps ≡ Some i
+
+-- an operation of a form with these attributes and results of these types says the pieces
+pub record FormDrafts (form : OpForm) (types : List KitType) (ps : Pieces) (attributes : List (List ℕ × KitAttr)) (tys : List TypeHandle) : Type 0 where
+  pub pieces : Trees (Said KitAttr)
+  pub said : said_in form attributes (operands_said ps) tys ≡ Some pieces
+  pub shown : ShowsAll says types pieces ps
+  pub typed : Pairs (ShowsType says types) tys (result_types_in form ps)
+
+module _ {D : Type 0} where
+  -- the parts give an operation of a form with these attributes and types of results, in a context that now has these types
+  abbrev pub MakesForm : OpForm → List (Part D KitOp KitAttr KitType) → (old new : List KitType) → List (List ℕ × KitAttr) → List TypeHandle → Type 0
+  MakesForm form parts old new attributes tys = (ps : Pieces) → ShowsParts says old parts ps → (refused_in form ps ≡ None) × FormDrafts form new ps attributes tys
+
+  -- the parts give no operation of the form: this part is refused
+  abbrev pub RefusesForm : OpForm → List (Part D KitOp KitAttr KitType) → List KitType → ℕ → Type 0
+  RefusesForm form parts old i = (ps : Pieces) → ShowsParts says old parts ps → refused_in form ps ≡ Some i

@@ -1,0 +1,153 @@
+-- The parts of which integers are read, and which are printed.
+use Rattle.std.specs.Prelude.{◌≡◌, ◌==◌, ℕ, Bool, false, Vec, List, [], ◌∷◌, ◌++◌, map, Option, Some, None, option_map}
+use Rattle.std.specs.Global.{Global}
+use Rattle.ir_names.specs.declared.identifier.Identifier.{Identifier}
+use Rattle.ir_names.specs.Identifier.{text_of}
+use Rattle.ir_base.specs.declared.types.TypeHandle.{TypeHandle}
+use Rattle.ir_print.specs.declared.format.Number.{Number}
+use Rattle.ir_print.specs.declared.format.Part.{Part, Part-F, out-Part}
+use Rattle.ir_print.specs.declared.format.Part.TheVariants as parts
+use Rattle.kit_ops.specs.declared.types.IntegerType.{IntegerType}
+use Rattle.kit_ops.specs.declared.attributes.IntegerAttr.{IntegerAttr}
+use Rattle.kit_ops.specs.declared.attributes.KitAttr.{KitAttr}
+use Rattle.kit_ops.specs.declared.attributes.KitAttr.TheVariants as attrs
+use Rattle.kit.specs.Numbers.{HasFittingBits, printed_number}
+
+module _ {D A K T : Type 0} where
+  -- the number that a part is
+  abbrev pub number_part : Part D A K T → Option Number
+  number_part (parts.Operands n) = None
+  number_part (parts.Attribute a) = None
+  number_part (parts.Type t) = None
+  number_part parts.Region = None
+  number_part (parts.Name n) = None
+  number_part (parts.Number n) = n
+  number_part (parts.Width s w) = None
+  number_part other = None
+
+  -- the integer type that a part is
+  abbrev pub integer_part : Part D A K T → Option IntegerType
+  integer_part (parts.Operands n) = None
+  integer_part (parts.Attribute a) = None
+  integer_part (parts.Type t) = None
+  integer_part parts.Region = None
+  integer_part (parts.Name n) = None
+  integer_part (parts.Number n) = None
+  integer_part (parts.Width s w) = option_map (λ n. record { signedness = s; width = n }) w
+  integer_part other = None
+
+  -- the type that a part is
+  abbrev pub type_part : Part D A K T → Option TypeHandle
+  type_part (parts.Operands n) = None
+  type_part (parts.Attribute a) = None
+  type_part (parts.Type t) = Some t
+  type_part parts.Region = None
+  type_part (parts.Name n) = None
+  type_part (parts.Number n) = None
+  type_part (parts.Width s w) = None
+  type_part other = None
+
+  -- the name that a part is
+  abbrev pub name_part : Part D A K T → Option Identifier
+  name_part (parts.Operands n) = None
+  name_part (parts.Attribute a) = None
+  name_part (parts.Type t) = None
+  name_part parts.Region = None
+  name_part (parts.Name n) = Some n
+  name_part (parts.Number n) = None
+  name_part (parts.Width s w) = None
+  name_part other = None
+
+  -- whether a part is a region
+  abbrev pub region_part : Part D A K T → Option (Unit {0})
+  region_part (parts.Operands n) = None
+  region_part (parts.Attribute a) = None
+  region_part (parts.Type t) = None
+  region_part parts.Region = Some tt
+  region_part (parts.Name n) = None
+  region_part (parts.Number n) = None
+  region_part (parts.Width s w) = None
+  region_part other = None
+
+  -- the attribute that a part is
+  abbrev pub attribute_part : Part D A K T → Option K
+  attribute_part (parts.Operands n) = None
+  attribute_part (parts.Attribute a) = Some a
+  attribute_part (parts.Type t) = None
+  attribute_part parts.Region = None
+  attribute_part (parts.Name n) = None
+  attribute_part (parts.Number n) = None
+  attribute_part (parts.Width s w) = None
+  attribute_part other = None
+
+  -- the number of operands that a part is
+  abbrev pub operands_part : Part D A K T → Option ℕ
+  operands_part (parts.Operands n) = Some n
+  operands_part (parts.Attribute a) = None
+  operands_part (parts.Type t) = None
+  operands_part parts.Region = None
+  operands_part (parts.Name n) = None
+  operands_part (parts.Number n) = None
+  operands_part (parts.Width s w) = None
+  operands_part other = None
+
+  -- the part is one operand
+  abbrev pub is_one_operand : Part D A K T → Bool
+  is_one_operand (parts.Operands n) = n == 1
+  is_one_operand (parts.Attribute a) = false
+  is_one_operand (parts.Type t) = false
+  is_one_operand parts.Region = false
+  is_one_operand (parts.Name n) = false
+  is_one_operand (parts.Number n) = false
+  is_one_operand (parts.Width s w) = false
+  is_one_operand other = false
+
+  -- the list that a layer of a part is
+  abbrev pub list_layer : Part-F D A K T (Part D A K T) → Option (Vec (Vec (Part D A K T) Global) Global)
+  list_layer (Part-F.List ms) = Some ms
+  list_layer other = None
+
+  -- the list that a part is
+  abbrev pub list_part : Part D A K T → Option (Vec (Vec (Part D A K T) Global) Global)
+  list_part p = list_layer (out-Part D A K T p)
+
+  -- the part is a list with a member for each of these types
+  abbrev pub IsTypeList : List TypeHandle → Part D A K T → Type 0
+  IsTypeList tys p = (ms : Vec (Vec (Part D A K T) Global) Global) × (p ≡ parts.List ms) × (map (λ m. m.items) ms.items ≡ map (λ ty. parts.Type ty ∷ []) tys)
+
+  -- the parts are the name that an attribute is, and none where it is no name
+  abbrev pub AreNameParts : Option KitAttr → List (Part D A K T) → Type 0
+  AreNameParts (Some (attrs.Identifier id)) ps = (copy : Identifier) × (text_of copy ≡ text_of id) × (ps ≡ parts.Name copy ∷ [])
+  AreNameParts _ ps = ps ≡ []
+
+  -- the type that an attribute is, as parts
+  abbrev pub type_parts_of : Option KitAttr → List (Part D A K T)
+  type_parts_of (Some (attrs.Type ty)) = parts.Type ty ∷ []
+  type_parts_of _ = []
+
+  -- the parts of a module with this attribute as its name
+  abbrev pub AreModuleParts : Option KitAttr → List (Part D A K T) → Type 0
+  AreModuleParts o ps = (names : List (Part D A K T)) × AreNameParts o names × (ps ≡ names ++ parts.Region ∷ [])
+
+  -- the parts of a function with these attributes as its name and its type
+  abbrev pub AreFunctionParts : Option KitAttr → Option KitAttr → List (Part D A K T) → Type 0
+  AreFunctionParts o p ps = (names : List (Part D A K T)) × AreNameParts o names × (ps ≡ names ++ (type_parts_of p ++ parts.Region ∷ []))
+
+  -- an integer's number, and its type
+  abbrev pub integer_parts : IntegerAttr → List (Part D A K T)
+  integer_parts a = parts.Number (Some (printed_number a)) ∷ parts.Width a.integer.signedness (Some a.integer.width) ∷ []
+
+  -- an integer whose bits fit is printed as those parts
+  abbrev pub HasPartsOf : KitAttr → List (Part D A K T) → Type 0
+  HasPartsOf (attrs.Integer a) ps = HasFittingBits a → ps ≡ integer_parts a
+  HasPartsOf _ ps = Unit {0}
+
+-- the attribute is an integer with the same bits, of the same sign and width
+abbrev pub IsSameInteger : IntegerAttr → KitAttr → Type 0
+IsSameInteger a (attrs.Integer b) = (b.integer ≡ a.integer) × (b.bits ≡ a.bits)
+IsSameInteger a _ = ⊥
+
+-- the integer that an attribute is
+abbrev pub integer_of : KitAttr → Option IntegerAttr
+integer_of (attrs.Integer a) = Some a
+integer_of _ = None

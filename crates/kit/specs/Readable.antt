@@ -1,0 +1,369 @@
+-- What types, attributes and operations say has the shape of their formats, and can be read.
+use Rattle.std.specs.Prelude.{◌≡◌, ℕ, suc, ◌+◌, ◌-◌, ◌*◌, ◌%◌, ◌^◌, ◌<◌, ◌≤◌, ◌==◌, ◌&&◌, nat_le, nat_lt, Bool, true, false, List, [], ◌∷◌, length, Option, Some, None, option_map, option_and_then, cond, slice_get, refl}
+use Rattle.std.proofs.Common.{sym, ap, ◌∙◌, subst, arith}
+use Rattle.std.proofs.Math.Pow.{pow_mono}
+use Rattle.std.proofs.Math.Nat.{mod-eq_of_lt}
+use Rattle.std.proofs.lemmas.Bool.{and_parts, eqb-true, eq-eqb, ltb-true, lt-ltb, leb-true, le-leb}
+use Rattle.std.proofs.lemmas.Option.{none-some, same_Some, some_pair_parts, slice_get-map}
+use Rattle.ir_base.specs.declared.types.TypeHandle.{TypeHandle}
+use Rattle.ir_names.specs.declared.kinds.Signedness.{Signedness}
+use Rattle.ir_names.specs.declared.identifier.Identifier.{Identifier}
+use Rattle.ir_names.specs.Dictionary.{attribute_at}
+use Rattle.ir_names.specs.Identifier.{text_of}
+use Rattle.ir_names.specs.Tree.{Trees, node, no_tree, a_tree}
+use Rattle.ir_print.specs.declared.format.Number.{Number}
+use Rattle.ir_print.specs.Formats.{a_type}
+use Rattle.ir_print.specs.Pieces.{type_of_kind, attribute_of_kind, list, item, operands, region, name, number, width, ValueTree, Pieces}
+use Rattle.ir_print.specs.Shown.{Said, said_type, said_attribute, said_list, said_item, said_operands, said_region, said_name, said_number, said_width, leaf, ShowsAll, operands_said}
+use Rattle.kit_ops.specs.declared.kinds.KitOp.{KitOp}
+use Rattle.kit_ops.specs.declared.kinds.KitOp.TheVariants as ops
+use Rattle.kit_ops.specs.declared.types.KitType.{KitType}
+use Rattle.kit_ops.specs.declared.types.KitType.TheVariants as types
+use Rattle.kit_ops.specs.declared.types.KitTypeKind.TheVariants as type_kinds
+use Rattle.kit_ops.specs.declared.attributes.KitAttrKind.TheVariants as attr_kinds
+use Rattle.kit_ops.specs.declared.attributes.IntegerAttr.{IntegerAttr}
+use Rattle.kit_ops.specs.declared.attributes.KitAttr.{KitAttr}
+use Rattle.kit_ops.specs.declared.attributes.KitAttr.TheVariants as attrs
+use Rattle.kit.specs.Numbers.{number_modulo, is_signed, is_below_zero, number_of_bits, printed_number}
+use Rattle.kit_ops.specs.Keys.{symbol_name, function_type, constant_value}
+use Rattle.kit_ops.specs.Kinds.{type_kind, attr_kind}
+use Rattle.kit_ops.specs.Arithmetic.{arithmetic_number, comparison_number}
+use Rattle.kit_ops.proofs.Operators.{arithmetic_at, comparison_at}
+use Rattle.kit.specs.Forms.{OpForm, NamedRegion, TypedRegion, Value, TwoOperands, OneOperand, AnyOperands, form_of, number_of, steps_in, steps_of_form, read_ops, read_types, read_attrs, formats, op_kind, type_form, attr_form}
+use Rattle.kit.specs.Says.{says, values, one, two, only, types_said, said_of_type, said_of_attribute, said_of_operation, said_of_module, said_of_function, is_same_type, said_of_constant, said_of_pair, pair_said, said_in, numbered, has_values, integer_said, refused_unless, is_type_member, are_types, is_number_of, refused_type, refused_attribute, refused_in, refused_by, canonical}
+use Rattle.kit.specs.Seen.{none_seen, first_seen, one_seen, two_seen, three_seen}
+use Rattle.ir_print.specs.Shapes.{parts_in, AreSaidAt, AreMembersSaidAt, IsTypeSaid, IsAttributeSaid, SaysTypes, SaysAttributes, SaysOperations}
+
+-- ---- formats
+
+-- the kinds with numbers have the formats with these numbers
+pub operations : (n : ℕ) → slice_get formats.operations n ≡ option_map op_kind (slice_get read_ops n)
+operations n = slice_get-map op_kind read_ops n
+
+pub type_formats : (n : ℕ) → slice_get formats.types n ≡ option_map type_form (slice_get read_types n)
+type_formats n = slice_get-map type_form read_types n
+
+pub attribute_formats : (n : ℕ) → slice_get formats.attributes n ≡ option_map attr_form (slice_get read_attrs n)
+attribute_formats n = slice_get-map attr_form read_attrs n
+
+-- ---- what is said where something holds
+
+of_said : (m n : ℕ) (vs us : Trees (Said KitAttr)) (P : ℕ → Trees (Said KitAttr) → Type 0) → ◌≡◌ {A = Option (ℕ × Trees (Said KitAttr))} (Some (m, vs)) (Some (n, us)) → P m vs → P n us
+of_said m n vs us P e k = let p = some_pair_parts m n vs us e in subst (λ (i : ℕ). P i us) p.0 (subst (λ (ws : Trees (Said KitAttr)). P m ws) p.1 k)
+
+-- what is said where a test holds
+pub said_if : (b : Bool) (s : Option (ℕ × Trees (Said KitAttr))) (n : ℕ) (us : Trees (Said KitAttr)) → only b s ≡ Some (n, us) → (b ≡ true) × (s ≡ Some (n, us))
+said_if true s n us e = (refl, e)
+said_if false s n us e = absurd (none-some (n, us) e)
+
+pub only_if : {X : Type 0} (b : Bool) (s : Option X) (x : X) → only b s ≡ Some x → (b ≡ true) × (s ≡ Some x)
+only_if true s x e = (refl, e)
+only_if false s x e = absurd (none-some x e)
+
+-- ---- types
+
+-- types in a list have its shape
+types_shaped : (tys : List TypeHandle) → AreMembersSaidAt (a_type ∷ []) (types_said tys)
+types_shaped [] = tt
+types_shaped (ty ∷ tys) = ((refl, tt), types_shaped tys)
+
+-- and are types
+types_read : (context : List KitType) (tys : List TypeHandle) (ts : Pieces) → ShowsAll says context (types_said tys) ts → are_types ts ≡ true
+types_read context [] no_tree h = refl
+types_read context [] (a_tree t ts) h = absurd h
+types_read context (ty ∷ tys) ts h =
+    let first = first_seen says context (node said_item (one (leaf (said_type ty)))) (types_said tys) ts h in
+    let member = one_seen says context (leaf (said_type ty)) first.3.0 first.3.2 in
+    let member_is : first.3.0 ≡ a_tree (node (type_of_kind member.2.0) member.2.1) no_tree = subst (λ (u : ValueTree). first.3.0 ≡ a_tree u no_tree) member.2.2 member.1 in
+    let first_is : first.0 ≡ node item (a_tree (node (type_of_kind member.2.0) member.2.1) no_tree) = subst (λ (us : Pieces). first.0 ≡ node item us) member_is first.3.1 in
+    ap are_types first.2 ∙ (ap (λ (t : ValueTree). is_type_member t && are_types first.1) first_is ∙ types_read context tys first.1 first.4)
+
+-- the shape and the reading of a type's pieces
+abbrev TypeSaid : ℕ → Trees (Said KitAttr) → Type 0
+TypeSaid n us = (context : List KitType) (ps : Pieces) → ShowsAll says context us ps → IsTypeSaid says formats values n us ps
+
+integer_type_said : (s : Signedness) (w : ℕ) → nat_lt w (2 ^ 32) ≡ true → TypeSaid 0 (one (leaf (said_width s w)))
+integer_type_said s w small context ps h =
+    let only_piece = one_seen says context (leaf (said_width s w)) ps h in
+    let is : ps ≡ a_tree (node (width s w) only_piece.2.0) no_tree = subst (λ (t : ValueTree). ps ≡ a_tree t no_tree) only_piece.2.1 only_piece.1 in
+    record {
+      kind = type_form type_kinds.Integer;
+      at = refl;
+      shaped = ((refl, ltb-true w (2 ^ 32) small), tt);
+      read = ap (refused_type 0) is ∙ ap (λ (b : Bool). refused_unless b 0) small;
+    }
+
+function_type_said : (ins outs : List TypeHandle) → TypeSaid 1 (two (node said_list (types_said ins)) (node said_list (types_said outs)))
+function_type_said ins outs context ps h =
+    let pieces = two_seen says context (node said_list (types_said ins)) (node said_list (types_said outs)) ps h in
+    let first = pieces.3 in
+    let second = pieces.4 in
+    let is : ps ≡ a_tree (node list first.0) (a_tree (node list second.0) no_tree) =
+    pieces.2 ∙ (ap (λ (t : ValueTree). a_tree t (a_tree pieces.1 no_tree)) first.1 ∙ ap (λ (t : ValueTree). a_tree (node list first.0) (a_tree t no_tree)) second.1) in
+    record {
+      kind = type_form type_kinds.Function;
+      at = refl;
+      shaped = (types_shaped ins, (types_shaped outs, tt));
+      read = ap (refused_type 1) is ∙ (ap (λ (b : Bool). refused_unless (b && are_types second.0) 0) (types_read context ins first.0 first.2) ∙ ap (λ (b : Bool). refused_unless b 0) (types_read context outs second.0 second.2));
+    }
+
+unit_type_said : TypeSaid 2 no_tree
+unit_type_said context ps h = record { kind = type_form type_kinds.Unit; at = refl; shaped = tt; read = ap (refused_type 2) (none_seen says context ps h) }
+
+-- what types say can be read
+pub says_types : SaysTypes says formats values
+says_types context (types.Integer t) n us ps e = let said = said_if (nat_lt t.width (2 ^ 32)) (Some (0, one (leaf (said_width t.signedness t.width)))) n us e in
+    of_said 0 n (one (leaf (said_width t.signedness t.width))) us TypeSaid said.1 (integer_type_said t.signedness t.width said.0) context ps
+says_types context (types.Function f) n us ps e = of_said 1 n (two (node said_list (types_said f.inputs.items)) (node said_list (types_said f.results.items))) us TypeSaid e (function_type_said f.inputs.items f.results.items) context ps
+says_types context types.Unit n us ps e = of_said 2 n no_tree us TypeSaid e unit_type_said context ps
+
+-- ---- attributes
+
+-- bits below 2^width stand for a number in range
+pub in_range : (b : Bool) (p bits : ℕ) → (b ≡ true → p ≤ 2 * bits) → bits < p → cond b (nat_le (2 * cond b (p - bits) bits) p) (nat_lt (cond b (p - bits) bits) p) ≡ true
+in_range true p bits h low = let half = h refl in le-leb (2 * (p - bits)) p (omega arith)
+in_range false p bits h low = lt-ltb bits p low
+
+-- that number has 64 bits
+in_64_bits : (b : Bool) (p bits : ℕ) → (b ≡ true → p ≤ 2 * bits) → bits < p → p ≤ 2 ^ 64 → cond b (p - bits) bits < 2 ^ 64
+in_64_bits true p bits h low most = let half = h refl in omega arith
+in_64_bits false p bits h low most = omega arith
+
+-- and stands for these bits
+pub same_bits : (b : Bool) (p bits : ℕ) → bits < p → cond b ((p - cond b (p - bits) bits) % p) (cond b (p - bits) bits % p) ≡ bits
+same_bits true p bits low = let back : p - (p - bits) ≡ bits = omega arith in ap (λ n. n % p) back ∙ mod-eq_of_lt low
+same_bits false p bits low = mod-eq_of_lt low
+
+-- the highest bit is set in numbers that are printed with a sign
+pub high : (s : Signedness) (w bits : ℕ) → is_below_zero s w bits ≡ true → 2 ^ w ≤ 2 * bits
+high s w bits e = leb-true (2 ^ w) (2 * bits) (and_parts (is_signed s w) (nat_le (2 ^ w) (2 * bits)) e).1
+
+-- widths of numbers have less than 2^32 bits
+small_width : (w : ℕ) → has_values w ≡ true → (w ≤ 64) × (w < 2 ^ 32)
+small_width w e = let most = leb-true w 64 (and_parts (nat_le 1 w) (nat_le w 64) e).1 in (most, omega arith)
+
+-- the shape and the reading of an attribute's pieces
+abbrev AttributeSaid : ℕ → Trees (Said KitAttr) → Type 0
+AttributeSaid n us = (context : List KitType) (ps : Pieces) → ShowsAll says context us ps → IsAttributeSaid says formats values n us ps
+
+-- the pieces of a number and its width
+abbrev number_pieces : Number → Pieces → Signedness → ℕ → Pieces → Pieces
+number_pieces n ts s w us = a_tree (node (number n.is_negative n.magnitude) ts) (a_tree (node (width s w) us) no_tree)
+
+integer_attribute_said : (a : IntegerAttr) → has_values a.integer.width ≡ true → nat_lt a.bits (2 ^ a.integer.width) ≡ true → AttributeSaid 0 (integer_said a.integer.signedness a.integer.width (printed_number a))
+integer_attribute_said a wide fits context ps h =
+    let s = a.integer.signedness in
+    let w = a.integer.width in
+    let n = printed_number a in
+    let pieces = two_seen says context (leaf (said_number n.is_negative n.magnitude)) (leaf (said_width s w)) ps h in
+    let ts = pieces.3.0 in
+    let us = pieces.4.0 in
+    let is : ps ≡ number_pieces n ts s w us = pieces.2 ∙ (ap (λ (t : ValueTree). a_tree t (a_tree pieces.1 no_tree)) pieces.3.1 ∙ ap (λ (t : ValueTree). a_tree (node (number n.is_negative n.magnitude) ts) (a_tree t no_tree)) pieces.4.1) in
+    let small = small_width w wide in
+    let low : a.bits < 2 ^ w = ltb-true a.bits (2 ^ w) fits in
+    let range : is_number_of w (number n.is_negative n.magnitude) ≡ true = in_range n.is_negative (2 ^ w) a.bits (high s w a.bits) low in
+    let same : number_modulo w n ≡ a.bits = same_bits n.is_negative (2 ^ w) a.bits low in
+    record {
+      kind = attr_form attr_kinds.Integer;
+      at = refl;
+      shaped = ((refl, in_64_bits n.is_negative (2 ^ w) a.bits (high s w a.bits) low (pow_mono small.0)), ((refl, small.1), tt));
+      read = ap (refused_attribute 0) is ∙ (ap (λ (b : Bool). cond b (refused_unless (is_number_of w (number n.is_negative n.magnitude)) 0) (Some 1)) wide ∙ ap (λ (b : Bool). refused_unless b 0) range);
+      canonical = ap (canonical 0) is ∙ (ap (λ (bits : ℕ). number_pieces (number_of_bits s w bits) ts s w us) same ∙ sym is);
+    }
+
+-- what attributes say can be read
+pub says_attributes : SaysAttributes says formats values
+says_attributes context (attrs.Integer a) n us ps e =
+    let said = said_if (has_values a.integer.width && nat_lt a.bits (2 ^ a.integer.width)) (Some (0, integer_said a.integer.signedness a.integer.width (printed_number a))) n us e in
+    let tests = and_parts (has_values a.integer.width) (nat_lt a.bits (2 ^ a.integer.width)) said.0 in
+    of_said 0 n (integer_said a.integer.signedness a.integer.width (printed_number a)) us AttributeSaid said.1 (integer_attribute_said a tests.0 tests.1) context ps
+says_attributes context other n us ps e = absurd (none-some (n, us) e)
+
+-- ---- operations
+
+-- The shape and the reading of the pieces of an operation of a form: what is said has the shape of its steps, and the pieces
+-- aren't refused and say as many operands as there are.
+pub record FormRead (form : OpForm) (count : ℕ) (us : Trees (Said KitAttr)) (ps : Pieces) : Type 0 where
+  pub shaped : AreSaidAt (parts_in (steps_in form)) us
+  pub read : refused_in form ps ≡ None
+  pub operands : operands_said ps ≡ count
+
+abbrev FormSaid : OpForm → ℕ → Trees (Said KitAttr) → Type 0
+FormSaid form count us = (context : List KitType) (ps : Pieces) → ShowsAll says context us ps → FormRead form count us ps
+
+module_said : (id : Identifier) → FormSaid NamedRegion 0 (two (leaf (said_name (text_of id))) (leaf said_region))
+module_said id context ps h =
+    let pieces = two_seen says context (leaf (said_name (text_of id))) (leaf said_region) ps h in
+    let is : ps ≡ a_tree (node (name (text_of id)) pieces.3.0) (a_tree (node region pieces.4.0) no_tree) =
+    pieces.2 ∙ (ap (λ (t : ValueTree). a_tree t (a_tree pieces.1 no_tree)) pieces.3.1 ∙ ap (λ (t : ValueTree). a_tree (node (name (text_of id)) pieces.3.0) (a_tree t no_tree)) pieces.4.1) in
+    record { shaped = ((tt, id.valid), (refl, tt)); read = ap (refused_in NamedRegion) is; operands = ap operands_said is }
+
+function_said : (id : Identifier) (ty : TypeHandle) → FormSaid TypedRegion 0 (a_tree (leaf (said_name (text_of id))) (two (leaf (said_type ty)) (leaf said_region)))
+function_said id ty context ps h =
+    let pieces = three_seen says context (leaf (said_name (text_of id))) (leaf (said_type ty)) (leaf said_region) ps h in
+    let is : ps ≡ a_tree (node (name (text_of id)) pieces.4.0) (a_tree (node (type_of_kind pieces.5.0) pieces.5.1) (a_tree (node region pieces.6.0) no_tree)) =
+    pieces.3 ∙ (ap (λ (t : ValueTree). a_tree t (a_tree pieces.1 (a_tree pieces.2 no_tree))) pieces.4.1
+    ∙ (ap (λ (t : ValueTree). a_tree (node (name (text_of id)) pieces.4.0) (a_tree t (a_tree pieces.2 no_tree))) pieces.5.2
+    ∙ ap (λ (t : ValueTree). a_tree (node (name (text_of id)) pieces.4.0) (a_tree (node (type_of_kind pieces.5.0) pieces.5.1) (a_tree t no_tree))) pieces.6.1)) in
+    record { shaped = ((tt, id.valid), (refl, (refl, tt))); read = ap (refused_in TypedRegion) is; operands = ap operands_said is }
+
+constant_said : (a : IntegerAttr) → FormSaid Value 0 (one (leaf (said_attribute (attrs.Integer a))))
+constant_said a context ps h =
+    let piece = one_seen says context (leaf (said_attribute (attrs.Integer a))) ps h in
+    let is : ps ≡ a_tree (node (attribute_of_kind piece.2.0) piece.2.1) no_tree = piece.1 ∙ ap (λ (t : ValueTree). a_tree t no_tree) piece.2.2 in
+    record { shaped = (refl, tt); read = ap (refused_in Value) is; operands = ap operands_said is }
+
+operands_read : (count : ℕ) → FormSaid AnyOperands count (one (leaf (said_operands count)))
+operands_read count context ps h =
+    let piece = one_seen says context (leaf (said_operands count)) ps h in
+    let is : ps ≡ a_tree (node (operands count) piece.2.0) no_tree = piece.1 ∙ ap (λ (t : ValueTree). a_tree t no_tree) piece.2.1 in
+    let plain : count + 0 ≡ count = omega arith in
+    record { shaped = (tt, tt); read = ap (refused_in AnyOperands) is; operands = ap operands_said is ∙ plain }
+
+operand_read : FormSaid OneOperand 1 (one (leaf (said_operands 1)))
+operand_read context ps h =
+    let piece = one_seen says context (leaf (said_operands 1)) ps h in
+    let is : ps ≡ a_tree (node (operands 1) piece.2.0) no_tree = piece.1 ∙ ap (λ (t : ValueTree). a_tree t no_tree) piece.2.1 in
+    record { shaped = (refl, tt); read = ap (refused_in OneOperand) is; operands = ap operands_said is }
+
+pair_read : (ty : TypeHandle) → FormSaid TwoOperands 2 (pair_said ty)
+pair_read ty context ps h =
+    let pieces = three_seen says context (leaf (said_operands 1)) (leaf (said_operands 1)) (leaf (said_type ty)) ps h in
+    let is : ps ≡ a_tree (node (operands 1) pieces.4.0) (a_tree (node (operands 1) pieces.5.0) (a_tree (node (type_of_kind pieces.6.0) pieces.6.1) no_tree)) =
+    pieces.3 ∙ (ap (λ (t : ValueTree). a_tree t (a_tree pieces.1 (a_tree pieces.2 no_tree))) pieces.4.1
+    ∙ (ap (λ (t : ValueTree). a_tree (node (operands 1) pieces.4.0) (a_tree t (a_tree pieces.2 no_tree))) pieces.5.1
+    ∙ ap (λ (t : ValueTree). a_tree (node (operands 1) pieces.4.0) (a_tree (node (operands 1) pieces.5.0) (a_tree t no_tree))) pieces.6.2)) in
+    record { shaped = (refl, (refl, (refl, tt))); read = ap (refused_in TwoOperands) is; operands = ap operands_said is }
+
+-- a fact of what is said holds where it holds of what a name, a name and a type, a value, a result say
+is_said : (vs us : Trees (Said KitAttr)) (P : Trees (Said KitAttr) → Type 0) → ◌≡◌ {A = Option (Trees (Said KitAttr))} (Some vs) (Some us) → P vs → P us
+is_said vs us P e k = let same : vs ≡ us = cc in subst P same k
+
+module_by : (P : Trees (Said KitAttr) → Type 0) → ((id : Identifier) → P (two (leaf (said_name (text_of id))) (leaf said_region))) → (o : Option KitAttr) (us : Trees (Said KitAttr)) → said_of_module o ≡ Some us → P us
+module_by P k (Some (attrs.Identifier id)) us e = is_said (two (leaf (said_name (text_of id))) (leaf said_region)) us P e (k id)
+module_by P k (Some other) us e = absurd (none-some us e)
+module_by P k None us e = absurd (none-some us e)
+
+function_by : (P : Trees (Said KitAttr) → Type 0) → ((id : Identifier) (ty : TypeHandle) → P (a_tree (leaf (said_name (text_of id))) (two (leaf (said_type ty)) (leaf said_region)))) →
+    (o p : Option KitAttr) (us : Trees (Said KitAttr)) → said_of_function o p ≡ Some us → P us
+function_by P k (Some (attrs.Identifier id)) (Some (attrs.«Type» ty)) us e = is_said (a_tree (leaf (said_name (text_of id))) (two (leaf (said_type ty)) (leaf said_region))) us P e (k id ty)
+function_by P k (Some (attrs.Identifier id)) other us e = absurd (none-some us e)
+function_by P k other p us e = absurd (none-some us e)
+
+-- A constant that says anything has an integer as its value, and one result, of the type of that: it says the value.
+pub record ConstantSays (o : Option KitAttr) (tys : List TypeHandle) (us : Trees (Said KitAttr)) : Type 0 where
+  pub value : IntegerAttr
+  pub has : o ≡ Some (attrs.Integer value)
+  pub result : tys ≡ value.ty ∷ []
+  pub says_it : one (leaf (said_attribute (attrs.Integer value))) ≡ us
+
+pub constant_says : (o : Option KitAttr) (tys : List TypeHandle) (us : Trees (Said KitAttr)) → said_of_constant o tys ≡ Some us → ConstantSays o tys us
+constant_says (Some (attrs.Integer a)) [] us e = absurd (none-some us e)
+constant_says (Some (attrs.Integer a)) (ty ∷ other ∷ tys) us e = absurd (none-some us e)
+constant_says (Some (attrs.Integer a)) (ty ∷ []) us e =
+    let said = only_if (is_same_type a.ty ty) (Some (one (leaf (said_attribute (attrs.Integer a))))) us e in
+    record {
+      value = a;
+      has = refl;
+      result = ap (λ (n : ℕ). record { number = n } ∷ []) (sym (eqb-true a.ty.number ty.number said.0));
+      says_it = same_Some (one (leaf (said_attribute (attrs.Integer a)))) us said.1;
+    }
+constant_says (Some other) tys us e = absurd (none-some us e)
+constant_says None tys us e = absurd (none-some us e)
+
+-- and where it has them, it says the value
+pub constant_said_so : (a : IntegerAttr) → said_of_constant (Some (attrs.Integer a)) (a.ty ∷ []) ≡ Some (one (leaf (said_attribute (attrs.Integer a))))
+constant_said_so a = ap (λ (b : Bool). only b (Some (one (leaf (said_attribute (attrs.Integer a)))))) (eq-eqb a.ty.number a.ty.number refl)
+
+constant_by : (P : Trees (Said KitAttr) → Type 0) → ((a : IntegerAttr) → P (one (leaf (said_attribute (attrs.Integer a))))) → (o : Option KitAttr) (tys : List TypeHandle) (us : Trees (Said KitAttr)) → said_of_constant o tys ≡ Some us → P us
+constant_by P k o tys us e = let said = constant_says o tys us e in subst P said.says_it (k said.value)
+
+pair_by : (P : Trees (Said KitAttr) → Type 0) → ((ty : TypeHandle) → P (pair_said ty)) → (tys : List TypeHandle) (us : Trees (Said KitAttr)) → said_of_pair tys ≡ Some us → P us
+pair_by P k [] us e = absurd (none-some us e)
+pair_by P k (ty ∷ []) us e = is_said (pair_said ty) us P e (k ty)
+pair_by P k (ty ∷ other ∷ tys) us e = absurd (none-some us e)
+
+-- the number of operands is right
+many_used : (many : Bool) (count used : ℕ) → (many && count == used) ≡ true → used ≡ count
+many_used many count used e = sym (eqb-true count used (and_parts many (count == used) e).1)
+
+-- what an operation of a form says has its shape, and can be read
+form_said : (form : OpForm) (entries : List (List ℕ × KitAttr)) (count : ℕ) (tys : List TypeHandle) (us : Trees (Said KitAttr)) → said_in form entries count tys ≡ Some us → FormSaid form count us
+form_said NamedRegion entries count tys us e =
+    let said = only_if (length entries == 1 && count == 0) (said_of_module (attribute_at entries symbol_name)) us e in
+    subst (λ (c : ℕ). FormSaid NamedRegion c us) (many_used (length entries == 1) count 0 said.0) (module_by (FormSaid NamedRegion 0) module_said (attribute_at entries symbol_name) us said.1)
+form_said TypedRegion entries count tys us e =
+    let said = only_if (length entries == 2 && count == 0) (said_of_function (attribute_at entries symbol_name) (attribute_at entries function_type)) us e in
+    subst (λ (c : ℕ). FormSaid TypedRegion c us) (many_used (length entries == 2) count 0 said.0) (function_by (FormSaid TypedRegion 0) function_said (attribute_at entries symbol_name) (attribute_at entries function_type) us said.1)
+form_said Value entries count tys us e =
+    let said = only_if (length entries == 1 && count == 0) (said_of_constant (attribute_at entries constant_value) tys) us e in
+    subst (λ (c : ℕ). FormSaid Value c us) (many_used (length entries == 1) count 0 said.0) (constant_by (FormSaid Value 0) constant_said (attribute_at entries constant_value) tys us said.1)
+form_said TwoOperands entries count tys us e =
+    let said = only_if (length entries == 0 && count == 2) (said_of_pair tys) us e in
+    subst (λ (c : ℕ). FormSaid TwoOperands c us) (many_used (length entries == 0) count 2 said.0) (pair_by (FormSaid TwoOperands 2) pair_read tys us said.1)
+form_said OneOperand entries count tys us e =
+    let said = only_if (length entries == 0 && count == 1) (Some (one (leaf (said_operands 1)))) us e in
+    subst (λ (c : ℕ). FormSaid OneOperand c us) (many_used (length entries == 0) count 1 said.0) (is_said (one (leaf (said_operands 1))) us (FormSaid OneOperand 1) said.1 operand_read)
+form_said AnyOperands entries count tys us e =
+    let said = only_if (length entries == 0) (Some (one (leaf (said_operands count)))) us e in
+    is_said (one (leaf (said_operands count))) us (FormSaid AnyOperands count) said.1 (operands_read count)
+
+numbered_by : (k : ℕ) (said : Option (Trees (Said KitAttr))) (n : ℕ) (us : Trees (Said KitAttr)) → option_map {U = ℕ × Trees (Said KitAttr)} (λ vs. (k, vs)) said ≡ Some (n, us) → (Some k ≡ Some n) × (said ≡ Some us)
+numbered_by k (Some vs) n us e = let p = some_pair_parts k n vs us e in (ap Some p.0, ap Some p.1)
+numbered_by k None n us e = absurd (none-some (n, us) e)
+
+at_number : (m n : ℕ) (kind : KitOp) → Some m ≡ Some n → slice_get read_ops m ≡ Some kind → slice_get read_ops n ≡ Some kind
+at_number m n kind e h = let same : m ≡ n = cc in subst (λ (i : ℕ). slice_get read_ops i ≡ Some kind) same h
+
+-- what is said with a number is said in a form
+pub is_numbered : (form : Option OpForm) (index : Option ℕ) (said : OpForm → Option (Trees (Said KitAttr))) (n : ℕ) (us : Trees (Said KitAttr)) → numbered form index said ≡ Some (n, us) →
+    (f : OpForm) × (form ≡ Some f) × (index ≡ Some n) × (said f ≡ Some us)
+is_numbered (Some f) (Some k) said n us e = let both = numbered_by k (said f) n us e in (f, refl, both.0, both.1)
+is_numbered (Some f) None said n us e = absurd (none-some (n, us) e)
+is_numbered None index said n us e = absurd (none-some (n, us) e)
+
+-- the kind that says a number has it
+pub numbered_kind : (kind : KitOp) (n : ℕ) → number_of kind ≡ Some n → slice_get read_ops n ≡ Some kind
+numbered_kind ops.Module n e = at_number 0 n ops.Module e refl
+numbered_kind ops.Func n e = at_number 1 n ops.Func e refl
+numbered_kind ops.Constant n e = at_number 2 n ops.Constant e refl
+numbered_kind ops.Return n e = at_number 3 n ops.Return e refl
+numbered_kind ops.Emit n e = at_number 4 n ops.Emit e refl
+numbered_kind (ops.Arithmetic a) n e = at_number (suc (suc (suc (suc (suc (arithmetic_number a)))))) n (ops.Arithmetic a) e (arithmetic_at a)
+numbered_kind (ops.Comparison c) n e = at_number (suc (suc (suc (suc (suc (comparison_number c)))))) n (ops.Comparison c) e (comparison_at c)
+numbered_kind ops.ForwardRef n e = absurd (none-some n e)
+numbered_kind ops.Br n e = absurd (none-some n e)
+numbered_kind ops.CondBr n e = absurd (none-some n e)
+numbered_kind ops.Call n e = absurd (none-some n e)
+
+-- what operations say can be read
+pub says_operations : SaysOperations says formats values
+says_operations context kind entries count tys n us ps e h =
+    let said = is_numbered (form_of kind) (number_of kind) (λ form. said_in form entries count tys) n us e in
+    let here = numbered_kind kind n said.2 in
+    let read = form_said said.0 entries count tys us said.3 context ps h in
+    record {
+      kind = op_kind kind;
+      at = operations n ∙ ap (option_map op_kind) here;
+      shaped = subst (λ (f : Option OpForm). AreSaidAt (parts_in (steps_of_form f)) us) (sym said.1) read.shaped;
+      read = ap (λ (k : Option KitOp). refused_by (option_and_then form_of k) ps) here ∙ (ap (λ (f : Option OpForm). refused_by f ps) said.1 ∙ read.read);
+      operands = read.operands;
+    }
+
+-- an operation says the number of its own kind
+pub says_kinds : (kind : KitOp) (entries : List (List ℕ × KitAttr)) (count : ℕ) (tys : List TypeHandle) (n : ℕ) (us : Trees (Said KitAttr)) → said_of_operation kind entries count tys ≡ Some (n, us) → slice_get read_ops n ≡ Some kind
+says_kinds kind entries count tys n us e = numbered_kind kind n (is_numbered (form_of kind) (number_of kind) (λ form. said_in form entries count tys) n us e).2
+
+-- so does a type
+pub says_type_kinds : (key : KitType) (n : ℕ) (us : Trees (Said KitAttr)) → said_of_type key ≡ Some (n, us) → slice_get read_types n ≡ Some (type_kind key)
+says_type_kinds (types.Integer t) n us e = let said = said_if (nat_lt t.width (2 ^ 32)) (Some (0, one (leaf (said_width t.signedness t.width)))) n us e in
+    of_said 0 n (one (leaf (said_width t.signedness t.width))) us (λ m vs. slice_get read_types m ≡ Some type_kinds.Integer) said.1 refl
+says_type_kinds (types.Function f) n us e = of_said 1 n (two (node said_list (types_said f.inputs.items)) (node said_list (types_said f.results.items))) us (λ m vs. slice_get read_types m ≡ Some type_kinds.Function) e refl
+says_type_kinds types.Unit n us e = of_said 2 n no_tree us (λ m vs. slice_get read_types m ≡ Some type_kinds.Unit) e refl
+
+-- and an attribute
+pub says_attr_kinds : (attr : KitAttr) (n : ℕ) (us : Trees (Said KitAttr)) → said_of_attribute attr ≡ Some (n, us) → slice_get read_attrs n ≡ Some (attr_kind attr)
+says_attr_kinds (attrs.Integer a) n us e =
+    let said = said_if (has_values a.integer.width && nat_lt a.bits (2 ^ a.integer.width)) (Some (0, integer_said a.integer.signedness a.integer.width (printed_number a))) n us e in
+    of_said 0 n (integer_said a.integer.signedness a.integer.width (printed_number a)) us (λ m vs. slice_get read_attrs m ≡ Some attr_kinds.Integer) said.1 refl
+says_attr_kinds other n us e = absurd (none-some (n, us) e)

@@ -1,0 +1,177 @@
+//! The ids and the formats of kinds.
+ghost use Rattle.std.specs.Prelude.{◌≡◌, slice_get};
+ghost use Rattle.ir_print.specs.Formats.{steps_of};
+ghost use Rattle.kit.specs.Forms.{read_ops, read_types, read_attrs, op_kind, type_form, attr_form};
+
+use ir_print::Directive;
+use kit_ops::{KitAttrKind, KitOp, KitTypeKind};
+
+const NAMED_REGION: &[Directive] = &[Directive::SymbolHeader, Directive::Region];
+
+const TYPED_REGION: &[Directive] = &[
+    Directive::SymbolHeader,
+    Directive::Literal(": "),
+    Directive::Type,
+    Directive::Region,
+];
+
+const VALUE: &[Directive] = &[Directive::Attribute];
+
+const TWO_OPERANDS: &[Directive] = &[
+    Directive::Operand,
+    Directive::Literal(", "),
+    Directive::Operand,
+    Directive::Literal(": "),
+    Directive::Type,
+];
+
+const ONE_OPERAND: &[Directive] = &[Directive::Operand];
+
+const ANY_OPERANDS: &[Directive] = &[Directive::Operands];
+
+const WIDTH: &[Directive] = &[Directive::Width];
+
+const TYPE: &[Directive] = &[Directive::Type];
+
+const FUNCTION: &[Directive] = &[
+    Directive::Literal("<"),
+    Directive::Literal("("),
+    Directive::List(TYPE, ", "),
+    Directive::Literal(")"),
+    Directive::Literal("->"),
+    Directive::Literal("("),
+    Directive::List(TYPE, ", "),
+    Directive::Literal(")"),
+    Directive::Literal(">"),
+];
+
+const INTEGER: &[Directive] = &[
+    Directive::Literal("<"),
+    Directive::Number,
+    Directive::Literal(": "),
+    Directive::Width,
+    Directive::Literal(">"),
+];
+
+/// The kind of operations with this number, of those that can be read.
+pub fn operation_kind_at(number: usize) -> Option<KitOp>
+    ensures { result ≡ slice_get read_ops number }
+{
+    match number {
+        0 => Some(KitOp::Module),
+        1 => Some(KitOp::Func),
+        2 => Some(KitOp::Constant),
+        3 => Some(KitOp::Return),
+        4 => Some(KitOp::Emit),
+        _ => KitOp::operator_at(number - 5),
+    }
+}
+
+/// The kind of types with this number, of those that can be read.
+pub fn type_kind_at(number: usize) -> Option<KitTypeKind>
+    ensures { result ≡ slice_get read_types number }
+{
+    match number {
+        0 => Some(KitTypeKind::Integer),
+        1 => Some(KitTypeKind::Function),
+        2 => Some(KitTypeKind::Unit),
+        _ => None,
+    }
+}
+
+/// The kind of attributes with this number, of those that can be read.
+pub fn attribute_kind_at(number: usize) -> Option<KitAttrKind>
+    ensures { result ≡ slice_get read_attrs number }
+{
+    match number {
+        0 => Some(KitAttrKind::Integer),
+        _ => None,
+    }
+}
+
+/// The dotted name of a kind of operations.
+pub fn operation_name(kind: KitOp) -> &'static str
+    ensures { result.now ≡ (op_kind kind).id }
+{
+    match kind {
+        KitOp::Module => "builtin.module",
+        KitOp::Func => "builtin.func",
+        KitOp::Constant => "builtin.constant",
+        KitOp::ForwardRef => "builtin.forward_ref",
+        KitOp::Arithmetic(arithmetic) => arithmetic.dotted_name(),
+        KitOp::Comparison(comparison) => comparison.dotted_name(),
+        KitOp::Br => "kit.br",
+        KitOp::CondBr => "kit.cond_br",
+        KitOp::Call => "kit.call",
+        KitOp::Emit => "kit.emit",
+        KitOp::Return => "kit.return",
+    }
+}
+
+/// The dotted name of a kind of types.
+pub fn type_name(kind: KitTypeKind) -> &'static str
+    ensures { result.now ≡ (type_form kind).id }
+{
+    match kind {
+        KitTypeKind::Integer => "builtin.integer",
+        KitTypeKind::Function => "builtin.function",
+        KitTypeKind::Unit => "builtin.unit",
+    }
+}
+
+/// The dotted name of a kind of attributes.
+pub fn attribute_name(kind: KitAttrKind) -> &'static str
+    ensures { result.now ≡ (attr_form kind).id }
+{
+    match kind {
+        KitAttrKind::Integer => "builtin.integer",
+        KitAttrKind::Identifier => "builtin.identifier",
+        KitAttrKind::Type => "builtin.type",
+        KitAttrKind::SegmentSizes => "builtin.operand_segment_sizes",
+        KitAttrKind::GivenNames => "builtin.given_names",
+        KitAttrKind::Note => "kit.note",
+        KitAttrKind::Origin => "kit.origin",
+    }
+}
+
+/// What follows the name of an operation; nothing where the kind can't be read.
+pub fn operation_format(kind: KitOp) -> &'static [Directive]
+    ensures { steps_of result.now ≡ (op_kind kind).format }
+{
+    match kind {
+        KitOp::Module => NAMED_REGION,
+        KitOp::Func => TYPED_REGION,
+        KitOp::Constant => VALUE,
+        KitOp::Arithmetic(_) => TWO_OPERANDS,
+        KitOp::Comparison(_) => TWO_OPERANDS,
+        KitOp::Emit => ONE_OPERAND,
+        KitOp::Return => ANY_OPERANDS,
+        KitOp::ForwardRef | KitOp::Br | KitOp::CondBr | KitOp::Call => &[],
+    }
+}
+
+/// What follows the name of a type.
+pub fn type_format(kind: KitTypeKind) -> &'static [Directive]
+    ensures { steps_of result.now ≡ (type_form kind).format }
+{
+    match kind {
+        KitTypeKind::Integer => WIDTH,
+        KitTypeKind::Function => FUNCTION,
+        KitTypeKind::Unit => &[],
+    }
+}
+
+/// What follows the name of an attribute; nothing where the kind can't be read.
+pub fn attribute_format(kind: KitAttrKind) -> &'static [Directive]
+    ensures { steps_of result.now ≡ (attr_form kind).format }
+{
+    match kind {
+        KitAttrKind::Integer => INTEGER,
+        KitAttrKind::Identifier
+        | KitAttrKind::Type
+        | KitAttrKind::SegmentSizes
+        | KitAttrKind::GivenNames
+        | KitAttrKind::Note
+        | KitAttrKind::Origin => &[],
+    }
+}

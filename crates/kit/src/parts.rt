@@ -1,0 +1,157 @@
+//! What parts that were read are.
+ghost use Rattle.std.specs.Prelude.{◌≡◌, IfOk, option_copied, option_map};
+ghost use Rattle.kit.specs.Making.{one_type, one_integer_type, module_name, function_header, one_integer, one_operands, pair_type, each_type};
+ghost use Rattle.kit.specs.Parts.{number_part, integer_part, list_part, is_one_operand, IsTypeList};
+
+use crate::dialect::Kit;
+use ir_names::{Identifier, TypeHandle};
+use ir_print::{Number, Part};
+use kit_ops::{IntegerAttr, IntegerType, KitAttr};
+use std::alloc::{AllocError, Global};
+
+/// The type that parts are, if they are one.
+pub fn type_in(parts: &[Part<Kit>]) -> Option<TypeHandle>
+    ensures { result ≡ one_type parts.now }
+{
+    match parts {
+        [Part::Type(ty)] => Some(*ty),
+        _ => None,
+    }
+}
+
+/// The types in a list of types, if each member is one.
+pub fn types_of(
+    alloc: Global,
+    members: &[Vec<Part<Kit>>],
+) -> Result<Option<Vec<TypeHandle>>, AllocError>
+    ensures { IfOk result (λ types. option_map (λ v. v.items) types ≡ each_type members.now) }
+{
+    let mut types = Vec::with_capacity(alloc, members.len())?;
+    for member in members {
+        let Some(ty) = type_in(member.as_slice()) else {
+            return Ok(None);
+        };
+        types.push(ty)?;
+    }
+    Ok(Some(types))
+}
+
+/// A list of types, as a part.
+pub fn list_of(alloc: Global, types: &[TypeHandle]) -> Result<Part<Kit>, AllocError>
+    ensures { IfOk result (λ part. IsTypeList types.now part) }
+{
+    let mut members = Vec::with_capacity(alloc, types.len())?;
+    for ty in types {
+        members.push(vec![in alloc; Part::Type(*ty)]?)?;
+    }
+    Ok(Part::List(members))
+}
+
+/// The number that a part is.
+pub fn number_in(part: &Part<Kit>) -> Option<Number>
+    ensures { result ≡ number_part part.now }
+{
+    match part {
+        Part::Number(number) => *number,
+        _ => None,
+    }
+}
+
+/// The integer type that a part is.
+pub fn integer_in(part: &Part<Kit>) -> Option<IntegerType>
+    ensures { result ≡ integer_part part.now }
+{
+    match part {
+        Part::Width(signedness, Some(width)) => Some(IntegerType {
+            signedness: *signedness,
+            width: *width,
+        }),
+        _ => None,
+    }
+}
+
+/// The integer type that parts are, if they are one.
+pub fn integer_type_in(parts: &[Part<Kit>]) -> Option<IntegerType>
+    ensures { result ≡ one_integer_type parts.now }
+{
+    match parts {
+        [part] => integer_in(part),
+        _ => None,
+    }
+}
+
+/// The list that a part is.
+pub fn list_in(part: &Part<Kit>) -> Option<&Vec<Vec<Part<Kit>>>>
+    ensures { option_copied result ≡ list_part part.now }
+{
+    match part {
+        Part::List(members) => Some(members),
+        _ => None,
+    }
+}
+
+/// The name of parts that are a name and a region.
+pub fn module_in(parts: &[Part<Kit>]) -> Option<&Identifier>
+    ensures { option_copied result ≡ module_name parts.now }
+{
+    match parts {
+        [Part::Name(name), Part::Region] => Some(name),
+        _ => None,
+    }
+}
+
+/// The name and the type of parts that are a name, a type and a region.
+pub fn function_in(parts: &[Part<Kit>]) -> Option<(&Identifier, TypeHandle)>
+    ensures { option_map (λ e. (e.0.now, e.1)) result ≡ function_header parts.now }
+{
+    match parts {
+        [Part::Name(name), Part::Type(ty), Part::Region] => Some((name, *ty)),
+        _ => None,
+    }
+}
+
+/// The integer that parts are, if they are one.
+pub fn constant_in(parts: &[Part<Kit>]) -> Option<IntegerAttr>
+    ensures { result ≡ one_integer parts.now }
+{
+    match parts {
+        [Part::Attribute(KitAttr::Integer(integer))] => Some(*integer),
+        _ => None,
+    }
+}
+
+/// The number of operands that parts are, if they are operands.
+pub fn operands_in(parts: &[Part<Kit>]) -> Option<usize>
+    ensures { result ≡ one_operands parts.now }
+{
+    match parts {
+        [Part::Operands(count)] => Some(*count),
+        _ => None,
+    }
+}
+
+/// Whether a part is one operand.
+fn is_operand(part: &Part<Kit>) -> bool
+    ensures { result ≡ is_one_operand part.now }
+{
+    match part {
+        Part::Operands(count) => *count == 1,
+        _ => false,
+    }
+}
+
+/// The type of parts that are two operands and a type.
+pub fn pair_in(parts: &[Part<Kit>]) -> Option<TypeHandle>
+    ensures { result ≡ pair_type parts.now }
+{
+    match parts {
+        [left, right, Part::Type(ty)] => {
+            if is_operand(left) && is_operand(right) {
+                Some(*ty)
+            } else {
+                None
+            }
+        }
+        _ => None,
+    }
+}

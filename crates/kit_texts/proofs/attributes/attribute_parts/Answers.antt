@@ -1,5 +1,0 @@
-use Rattle.std.proofs.lemmas.Result.{IfOk-from_err}
-use Rattle.kit_texts.proofs.attributes.attribute_parts.Goals as goal
-
-pub returns-in_err-vec-in-Integer : goal.returns-in_err-vec-in-Integer
-returns-in_err-vec-in-Integer g c = λ types n ps h. IfOk-from_err _ _ c.from_residual.ensures.0
