@@ -20,12 +20,12 @@ use Rattle.kit_behaviour.proofs.PassListLemmas.{after_alike, after_faces, after_
 use Rattle.kit_behaviour.proofs.Propagation.BestFactsExist.{best_exists}
 use Rattle.kit_behaviour.proofs.Propagation.FactsByPlace.{facts_stay}
 use Rattle.kit_ruled_views.specs.Operations.{operations_below}
-use Rattle.kit_ruled_views.proofs.FitPrograms.{fit_program}
-use Rattle.kit_ruled_views.proofs.FunctionSizes.{one_pass, program_within}
-use Rattle.kit_ruled_views.proofs.ListsOnTrees.{is_after, list_on}
-use Rattle.kit_ruled_views.proofs.ProgramsOfTrees.{program_exists}
-use Rattle.kit_ruled_views.proofs.RuledSound.{ruled_sound}
-use Rattle.kit_ruled_views.proofs.SoundFlat.{sound_flat}
+use Rattle.kit_ruled_views.proofs.programs.FitPrograms.{fit_program}
+use Rattle.kit_ruled_views.proofs.programs.FunctionSizes.{one_pass, program_within}
+use Rattle.kit_ruled_views.proofs.programs.ListsOnTrees.{is_after, list_on}
+use Rattle.kit_ruled_views.proofs.programs.ProgramsOfTrees.{program_exists}
+use Rattle.kit_ruled_views.proofs.programs.RuledSound.{ruled_sound}
+use Rattle.kit_ruled_views.proofs.programs.SoundFlat.{sound_flat}
 use Rattle.kit_optimiser.specs.Functions.{function_content}
 use Rattle.kit_optimiser.proofs.HandlesTold.{handles_told}
 use Rattle.kit_optimiser.proofs.HeadsKept.{list_keeps}

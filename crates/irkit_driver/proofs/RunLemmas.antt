@@ -10,7 +10,7 @@ use Rattle.kit_behaviour.specs.Machine.{FunctionsByPath}
 use Rattle.kit_behaviour.specs.PassLists.{Goal, IsAfter, SameFaces}
 use Rattle.kit_behaviour.specs.Places.{Place}
 use Rattle.kit_ruled_views.specs.Operations.{operations_below}
-use Rattle.kit_ruled_views.proofs.FunctionSizes.{one_pass}
+use Rattle.kit_ruled_views.proofs.programs.FunctionSizes.{one_pass}
 use Rattle.kit_optimiser.specs.Programs.{PassedPrograms}
 use Rattle.kit_optimiser.specs.Passed.{pass_of}
 use Rattle.kit_optimiser.specs.declared.pass.KitPass.{KitPass}

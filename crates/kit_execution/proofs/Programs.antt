@@ -29,9 +29,9 @@ use Rattle.kit_places.specs.declared.places.Place as context
 use Rattle.kit_ruled_views.specs.Paths as tree
 use Rattle.kit_ruled_views.specs.Programs.{HasFunctionView}
 use Rattle.kit_ruled_views.specs.Sound.{IsSound}
-use Rattle.kit_ruled_views.proofs.FlatDefined.{flat_defined}
-use Rattle.kit_ruled_views.proofs.Located.{located}
-use Rattle.kit_ruled_views.proofs.RuledSound.{ruled_sound}
+use Rattle.kit_ruled_views.proofs.programs.FlatDefined.{flat_defined}
+use Rattle.kit_ruled_views.proofs.programs.Located.{located}
+use Rattle.kit_ruled_views.proofs.programs.RuledSound.{ruled_sound}
 use Rattle.kit_ruled_views.specs.Ruled.{type_or_first}
 use Rattle.kit_ruled_views.proofs.HandleSameness.{values_apart}
 use Rattle.kit_views.specs.Reading.{kit_reading}

@@ -25,12 +25,12 @@ use Rattle.kit_ruled_views.specs.Paths.{locate}
 use Rattle.kit_ruled_views.specs.Sound.{IsSound}
 use Rattle.kit_ruled_views.specs.TreePasses.{maps_of, IsSccpNamed, IsDceAlone, IsSimplifiedAlone}
 use Rattle.kit_ruled_views.specs.TreePasses.{IsTreePass, IsSoundTree, IsTreeAfter}
-use Rattle.kit_ruled_views.proofs.DeadInside.{holder_effects}
-use Rattle.kit_ruled_views.proofs.FlatShallow.{sound_local}
-use Rattle.kit_ruled_views.proofs.Lifted.{one_operation}
-use Rattle.kit_ruled_views.proofs.Located.{Located, located, heads_aside, thin_root, HoldersStay, locate_thinned}
-use Rattle.kit_ruled_views.proofs.PutLocated.{old_root, locate_put, locate_renamed}
-use Rattle.kit_ruled_views.proofs.SimplifyLocated.{cut_tree, Follow, is_func, arrives, whole}
+use Rattle.kit_ruled_views.proofs.programs.DeadInside.{holder_effects}
+use Rattle.kit_ruled_views.proofs.programs.FlatShallow.{sound_local}
+use Rattle.kit_ruled_views.proofs.programs.Lifted.{one_operation}
+use Rattle.kit_ruled_views.proofs.programs.Located.{Located, located, heads_aside, thin_root, HoldersStay, locate_thinned}
+use Rattle.kit_ruled_views.proofs.programs.PutLocated.{old_root, locate_put, locate_renamed}
+use Rattle.kit_ruled_views.proofs.programs.SimplifyLocated.{cut_tree, Follow, is_func, arrives, whole}
 use Rattle.kit_optimiser.specs.Functions.{function_content}
 
 func_cond : ops.Func ≡ ops.CondBr → ⊥

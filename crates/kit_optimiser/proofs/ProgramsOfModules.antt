@@ -15,13 +15,13 @@ use Rattle.kit_behaviour.proofs.PassListLemmas.{after_alike, after_goal, after_f
 use Rattle.kit_ruled_passes.specs.Held.{HoldsModule}
 use Rattle.kit_ruled_views.specs.Programs.{IsProgramOf}
 use Rattle.kit_ruled_views.specs.Sound.{IsSound}
-use Rattle.kit_ruled_views.proofs.ListsOnTrees.{list_on}
-use Rattle.kit_ruled_views.proofs.ProgramsOfTrees.{program_exists}
-use Rattle.kit_ruled_views.proofs.RuledSound.{ruled_sound}
-use Rattle.kit_ruled_views.proofs.SoundFlat.{sound_flat}
+use Rattle.kit_ruled_views.proofs.programs.ListsOnTrees.{list_on}
+use Rattle.kit_ruled_views.proofs.programs.ProgramsOfTrees.{program_exists}
+use Rattle.kit_ruled_views.proofs.programs.RuledSound.{ruled_sound}
+use Rattle.kit_ruled_views.proofs.programs.SoundFlat.{sound_flat}
 use Rattle.kit_ruled_views.specs.Operations.{operations_below}
-use Rattle.kit_ruled_views.proofs.FitPrograms.{fit_program}
-use Rattle.kit_ruled_views.proofs.FunctionSizes.{one_pass, program_within}
+use Rattle.kit_ruled_views.proofs.programs.FitPrograms.{fit_program}
+use Rattle.kit_ruled_views.proofs.programs.FunctionSizes.{one_pass, program_within}
 use Rattle.kit_ops.specs.declared.types.KitType.{KitType}
 use Rattle.kit_optimiser.specs.Passed.{IsOptimised}
 use Rattle.kit_execution.specs.Laws.{IsProgramIn}

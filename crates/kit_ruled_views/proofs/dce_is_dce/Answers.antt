@@ -1,4 +1,4 @@
-use Rattle.kit_ruled_views.proofs.DceOnPrograms.{dce_on_programs}
+use Rattle.kit_ruled_views.proofs.programs.DceOnPrograms.{dce_on_programs}
 use Rattle.kit_ruled_views.proofs.dce_is_dce.Goals as goal
 
 pub returns : goal.returns

@@ -1,4 +1,4 @@
-use Rattle.kit_ruled_views.proofs.ListsOnTrees.{list_on}
+use Rattle.kit_ruled_views.proofs.programs.ListsOnTrees.{list_on}
 use Rattle.kit_ruled_views.proofs.lists_are_lists.Goals as goal
 
 pub returns : goal.returns

@@ -1,5 +1,5 @@
 use Rattle.ir_trees.specs.Stands.{by_handle}
-use Rattle.kit_ruled_views.proofs.FunctionSizes.{program_within}
+use Rattle.kit_ruled_views.proofs.programs.FunctionSizes.{program_within}
 use Rattle.kit_ruled_views.proofs.modules_bound_functions.Goals as goal
 
 pub returns : goal.returns

@@ -1,4 +1,4 @@
-use Rattle.kit_ruled_views.proofs.ProgramsOfTrees as programs
+use Rattle.kit_ruled_views.proofs.programs.ProgramsOfTrees as programs
 use Rattle.kit_ruled_views.proofs.one_program.Goals as goal
 
 pub returns : goal.returns

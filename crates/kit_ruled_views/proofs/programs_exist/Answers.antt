@@ -1,4 +1,4 @@
-use Rattle.kit_ruled_views.proofs.ProgramsOfTrees.{program_exists}
+use Rattle.kit_ruled_views.proofs.programs.ProgramsOfTrees.{program_exists}
 use Rattle.kit_ruled_views.proofs.programs_exist.Goals as goal
 
 pub returns : goal.returns

@@ -1,4 +1,4 @@
-use Rattle.kit_ruled_views.proofs.FitPrograms.{fit_program}
+use Rattle.kit_ruled_views.proofs.programs.FitPrograms.{fit_program}
 use Rattle.kit_ruled_views.proofs.rules_make_fit.Goals as goal
 
 pub returns : goal.returns

@@ -1,4 +1,4 @@
-use Rattle.kit_ruled_views.proofs.RuledSound.{ruled_sound}
+use Rattle.kit_ruled_views.proofs.programs.RuledSound.{ruled_sound}
 use Rattle.kit_ruled_views.proofs.rules_make_sound.Goals as goal
 
 pub returns : goal.returns

@@ -1,4 +1,4 @@
-use Rattle.kit_ruled_views.proofs.SccpOnPrograms.{sccp_on_programs}
+use Rattle.kit_ruled_views.proofs.programs.SccpOnPrograms.{sccp_on_programs}
 use Rattle.kit_ruled_views.proofs.sccp_is_sccp.Goals as goal
 
 pub returns : goal.returns

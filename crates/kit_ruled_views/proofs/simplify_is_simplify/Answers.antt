@@ -1,4 +1,4 @@
-use Rattle.kit_ruled_views.proofs.SimplifyOnPrograms.{simplify_on_programs}
+use Rattle.kit_ruled_views.proofs.programs.SimplifyOnPrograms.{simplify_on_programs}
 use Rattle.kit_ruled_views.proofs.simplify_is_simplify.Goals as goal
 
 pub returns : goal.returns

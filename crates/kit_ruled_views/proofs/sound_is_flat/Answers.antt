@@ -1,4 +1,4 @@
-use Rattle.kit_ruled_views.proofs.SoundFlat.{sound_flat}
+use Rattle.kit_ruled_views.proofs.programs.SoundFlat.{sound_flat}
 use Rattle.kit_ruled_views.proofs.sound_is_flat.Goals as goal
 
 pub returns : goal.returns

@@ -1,6 +1,6 @@
 use Rattle.std.specs.Prelude.{◌++◌}
 use Rattle.kit_behaviour.proofs.PassListLemmas.{after_cut}
-use Rattle.kit_ruled_views.proofs.ListsOnTrees.{list_on, is_after}
+use Rattle.kit_ruled_views.proofs.programs.ListsOnTrees.{list_on, is_after}
 use Rattle.kit_ruled_views.proofs.tree_lists_cut.Goals as goal
 
 pub returns : goal.returns

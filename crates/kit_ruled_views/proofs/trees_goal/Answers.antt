@@ -1,5 +1,5 @@
 use Rattle.kit_behaviour.proofs.PassListLemmas.{after_goal}
-use Rattle.kit_ruled_views.proofs.ListsOnTrees.{is_after}
+use Rattle.kit_ruled_views.proofs.programs.ListsOnTrees.{is_after}
 use Rattle.kit_ruled_views.proofs.trees_goal.Goals as goal
 
 pub returns : goal.returns

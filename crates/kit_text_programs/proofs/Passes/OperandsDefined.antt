@@ -9,7 +9,7 @@ use Rattle.opt_trees.proofs.Lists.{has-from_map}
 use Rattle.kit_ops.specs.declared.types.KitType.{KitType}
 use Rattle.kit_views.specs.Reading.{kit_contents}
 use Rattle.kit_ruled_views.specs.Sound.{tree_of, IsHolder, IsInFunction, IsSound}
-use Rattle.kit_ruled_views.proofs.Inside.{Function, function_at, up, up_block, inside_up, there, block_there}
+use Rattle.kit_ruled_views.proofs.programs.Inside.{Function, function_at, up, up_block, inside_up, there, block_there}
 
 module _ {N : Names} (leads : TypeHandle → Option KitType) (numbered : List ℕ → ℕ) (type_at : N.value → TypeHandle)
     (t : Root N kit_contents) (sound : IsSound {N = N} leads numbered type_at t) where

@@ -17,10 +17,10 @@ use Rattle.kit_views.proofs.Definers.{ByBlock, makes, definers, all_made, block_
 use Rattle.kit_views.proofs.Lists.{Distinct, to_distinct, from_distinct, distinct_left, distinct_right, gathered, has_get}
 use Rattle.kit_views.proofs.Standing.{strip}
 use Rattle.kit_ruled_views.specs.Sound.{tree_of, IsHolder, IsInFunction, IsSound}
-use Rattle.kit_ruled_views.proofs.FlatShallow.{flat_shallow, sound_local}
-use Rattle.kit_ruled_views.proofs.Inside.{Function, function_at, up, inside_up}
-use Rattle.kit_ruled_views.proofs.Lifted.{one_operation, one_block, one_definer}
-use Rattle.kit_ruled_views.proofs.ShallowFunctions.{at_home}
+use Rattle.kit_ruled_views.proofs.programs.FlatShallow.{flat_shallow, sound_local}
+use Rattle.kit_ruled_views.proofs.programs.Inside.{Function, function_at, up, inside_up}
+use Rattle.kit_ruled_views.proofs.programs.Lifted.{one_operation, one_block, one_definer}
+use Rattle.kit_ruled_views.proofs.programs.ShallowFunctions.{at_home}
 use Rattle.kit_text_programs.proofs.Passes.EndsOnce.{one_end}
 
 -- what one gives of what is given without repeats has none

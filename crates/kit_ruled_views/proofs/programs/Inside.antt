@@ -19,8 +19,8 @@ use Rattle.kit_views.proofs.Definers.{ByOp, ByBlock, op_definer, block_definer}
 use Rattle.kit_views.proofs.Lists.{has_get}
 use Rattle.kit_views.proofs.Pairs.{Pair, pairs, BlockPair, block_pairs}
 use Rattle.kit_ruled_views.specs.Sound.{tree_of, IsSoundFunction, IsHolder, IsInFunction, IsSound}
-use Rattle.kit_ruled_views.proofs.Lifted.{lift, lift_block, lifted, lifted_blocks, blocks_inside, one_operation}
-use Rattle.kit_ruled_views.proofs.Lifted.{one_block, one_definer, inside_there}
+use Rattle.kit_ruled_views.proofs.programs.Lifted.{lift, lift_block, lifted, lifted_blocks, blocks_inside, one_operation}
+use Rattle.kit_ruled_views.proofs.programs.Lifted.{one_block, one_definer, inside_there}
 
 strip : {X : Type 0} (x : X) (xs : List X) → Has x (xs ++ []) → Has x xs
 strip x xs h = ⊎_elim (λ i. i) (λ i. absurd i) (has-append x xs [] h)

@@ -16,10 +16,10 @@ use Rattle.kit_views.specs.FlatView.{IsSameness}
 use Rattle.kit_ruled_views.specs.Ruled.{KitTree, kit_world, HasOwnNames, HaveTypesIn, type_or_first}
 use Rattle.kit_ruled_views.specs.Paths.{locate}
 use Rattle.kit_ruled_views.specs.Programs.{HasFunctionView, IsProgramOf}
-use Rattle.kit_ruled_views.proofs.RuledSound.{ruled_sound}
-use Rattle.kit_ruled_views.proofs.FiniteFunctions.{finite_program}
-use Rattle.kit_ruled_views.proofs.RuledFlat.{ruled_rules}
-use Rattle.kit_ruled_views.proofs.RuledPaths.{ruled_at}
+use Rattle.kit_ruled_views.proofs.programs.RuledSound.{ruled_sound}
+use Rattle.kit_ruled_views.proofs.programs.FiniteFunctions.{finite_program}
+use Rattle.kit_ruled_views.proofs.programs.RuledFlat.{ruled_rules}
+use Rattle.kit_ruled_views.proofs.programs.RuledPaths.{ruled_at}
 
 none_rules : Rules None
 none_rules = record {

@@ -21,7 +21,7 @@ use Rattle.kit_views.specs.FlatView.{IsOp, AreOps, AreFlatBlocks}
 use Rattle.kit_views.specs.Reading.{Reading, kit_contents}
 use Rattle.kit_ruled_views.specs.Ruled.{KitTree}
 use Rattle.kit_ruled_views.proofs.FunctionSites.{KitBlocks, KitBody}
-use Rattle.kit_ruled_views.proofs.FlatDefined.{results_are}
+use Rattle.kit_ruled_views.proofs.programs.FlatDefined.{results_are}
 
 -- an operation has its operands in its flat view, in order
 operands_are : {N : Names} {S : Contents} (r : Reading S) (names : List N.block) (h : Head N S) (op : Op N.value) →

@@ -51,20 +51,20 @@ use Rattle.kit_ruled_views.specs.Paths.{locate}
 use Rattle.kit_ruled_views.specs.Programs.{HasFunctionView, IsProgramOf}
 use Rattle.kit_ruled_views.specs.Sound.{tree_of, IsSound}
 use Rattle.kit_ruled_views.specs.TreePasses.{maps_of, IsSimplifiedAlone}
-use Rattle.kit_ruled_views.proofs.ChainsInside.{picked_has, joined_inside}
-use Rattle.kit_ruled_views.proofs.CutInside.{reached_up, cut_inside}
-use Rattle.kit_ruled_views.proofs.FlatDefined.{flat_defined}
-use Rattle.kit_ruled_views.proofs.FlatDistinct.{flat_distinct}
-use Rattle.kit_ruled_views.proofs.FlatShallow.{flat_shallow, sound_local}
-use Rattle.kit_ruled_views.proofs.Inside.{Function, function_at, up, up_block, there, block_there, maker_up}
-use Rattle.kit_ruled_views.proofs.Inside.{taker_up}
-use Rattle.kit_ruled_views.proofs.Lifted.{one_operation}
-use Rattle.kit_ruled_views.proofs.NamesKept.{placed_under}
-use Rattle.kit_ruled_views.proofs.PutLocated.{locate_renamed}
-use Rattle.kit_ruled_views.proofs.ShallowFunctions.{IsShallow, block_down}
-use Rattle.kit_ruled_views.proofs.ShallowFunctions as functions
-use Rattle.kit_ruled_views.proofs.SimplifyLocated.{holder_decided, cut_tree, kept_of, Member, Follow, is_func}
-use Rattle.kit_ruled_views.proofs.SimplifyLocated.{arrives, whole}
+use Rattle.kit_ruled_views.proofs.programs.ChainsInside.{picked_has, joined_inside}
+use Rattle.kit_ruled_views.proofs.programs.CutInside.{reached_up, cut_inside}
+use Rattle.kit_ruled_views.proofs.programs.FlatDefined.{flat_defined}
+use Rattle.kit_ruled_views.proofs.programs.FlatDistinct.{flat_distinct}
+use Rattle.kit_ruled_views.proofs.programs.FlatShallow.{flat_shallow, sound_local}
+use Rattle.kit_ruled_views.proofs.programs.Inside.{Function, function_at, up, up_block, there, block_there, maker_up}
+use Rattle.kit_ruled_views.proofs.programs.Inside.{taker_up}
+use Rattle.kit_ruled_views.proofs.programs.Lifted.{one_operation}
+use Rattle.kit_ruled_views.proofs.programs.NamesKept.{placed_under}
+use Rattle.kit_ruled_views.proofs.programs.PutLocated.{locate_renamed}
+use Rattle.kit_ruled_views.proofs.programs.ShallowFunctions.{IsShallow, block_down}
+use Rattle.kit_ruled_views.proofs.programs.ShallowFunctions as functions
+use Rattle.kit_ruled_views.proofs.programs.SimplifyLocated.{holder_decided, cut_tree, kept_of, Member, Follow, is_func}
+use Rattle.kit_ruled_views.proofs.programs.SimplifyLocated.{arrives, whole}
 
 -- ---- a function that is not there
 

@@ -17,9 +17,9 @@ use Rattle.kit_views.specs.Reading.{kit_contents, kit_reading}
 use Rattle.kit_views.proofs.Lists.{has_get}
 use Rattle.kit_views.proofs.ReachedBoth.{successors_are}
 use Rattle.kit_ruled_views.specs.Sound.{tree_of, IsHolder, IsInFunction, IsSound}
-use Rattle.kit_ruled_views.proofs.Lifted.{one_operation, one_block}
-use Rattle.kit_ruled_views.proofs.Inside.{Function, function_at, up, up_block, inside_up, block_there, pair}
-use Rattle.kit_ruled_views.proofs.Inside.{block_pair}
+use Rattle.kit_ruled_views.proofs.programs.Lifted.{one_operation, one_block}
+use Rattle.kit_ruled_views.proofs.programs.Inside.{Function, function_at, up, up_block, inside_up, block_there, pair}
+use Rattle.kit_ruled_views.proofs.programs.Inside.{block_pair}
 
 -- a block of each name
 pub named_block : {N : Names} (bs : Tree N kit_contents Blocks) (c : Spot N kit_contents) (b : N.block) →

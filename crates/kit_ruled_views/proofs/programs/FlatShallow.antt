@@ -20,10 +20,10 @@ use Rattle.kit_views.proofs.Pairs.{no_blocks, pairs}
 use Rattle.kit_views.proofs.ReachedBoth.{successors_are}
 use Rattle.kit_views.proofs.Standing.{strip}
 use Rattle.kit_ruled_views.specs.Sound.{tree_of, IsHolder, IsInFunction, IsSound}
-use Rattle.kit_ruled_views.proofs.Lifted.{one_block}
-use Rattle.kit_ruled_views.proofs.Inside.{function_at, up, up_block, inside_up, block_there}
-use Rattle.kit_ruled_views.proofs.ShallowFunctions.{IsAtRoot, IsShallow}
-use Rattle.kit_ruled_views.proofs.SuccessorsInside.{named_block}
+use Rattle.kit_ruled_views.proofs.programs.Lifted.{one_block}
+use Rattle.kit_ruled_views.proofs.programs.Inside.{function_at, up, up_block, inside_up, block_there}
+use Rattle.kit_ruled_views.proofs.programs.ShallowFunctions.{IsAtRoot, IsShallow}
+use Rattle.kit_ruled_views.proofs.programs.SuccessorsInside.{named_block}
 
 module _ {N : Names} (r : Reading kit_contents) (u : Root N kit_contents) where
   -- blocks of the first region stand at the root

@@ -23,10 +23,10 @@ use Rattle.kit_views.specs.Reading.{kit_contents}
 use Rattle.kit_views.proofs.Lists.{has_get}
 use Rattle.kit_ruled_views.specs.ProgramLaws.{AreTold}
 use Rattle.kit_ruled_views.specs.Sound.{tree_of, IsSound}
-use Rattle.kit_ruled_views.proofs.Inside.{Function, up, up_block, there, block_there, pair, block_pair}
-use Rattle.kit_ruled_views.proofs.Inside.{same_up_block, maker_up, taker_up}
-use Rattle.kit_ruled_views.proofs.Restricted.{has_is, is_has, left_true}
-use Rattle.kit_ruled_views.proofs.SuccessorsInside.{successor_inside, target_inside, block_of_name}
+use Rattle.kit_ruled_views.proofs.programs.Inside.{Function, up, up_block, there, block_there, pair, block_pair}
+use Rattle.kit_ruled_views.proofs.programs.Inside.{same_up_block, maker_up, taker_up}
+use Rattle.kit_ruled_views.proofs.programs.Restricted.{has_is, is_has, left_true}
+use Rattle.kit_ruled_views.proofs.programs.SuccessorsInside.{successor_inside, target_inside, block_of_name}
 
 -- facts that agree on some values say the same of them
 

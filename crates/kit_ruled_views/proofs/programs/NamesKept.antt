@@ -27,7 +27,7 @@ use Rattle.kit_views.proofs.Lists.{has_get, at_has}
 use Rattle.kit_views.proofs.Pairs.{backs, block_backs}
 use Rattle.kit_ruled_views.proofs.RenamedViews.{value_listed}
 use Rattle.kit_ruled_views.specs.Sound.{tree_of}
-use Rattle.kit_ruled_views.proofs.FlatDefined.{all_named, ops_named, op_named}
+use Rattle.kit_ruled_views.proofs.programs.FlatDefined.{all_named, ops_named, op_named}
 
 -- ---- names while constants are put in
 

@@ -20,7 +20,7 @@ use Rattle.kit_ruled_views.proofs.OneView.{one_view}
 use Rattle.kit_ruled_views.specs.Paths.{locate}
 use Rattle.kit_ruled_views.specs.Programs.{HasFunctionView, IsProgramOf}
 use Rattle.kit_ruled_views.specs.Sound.{tree_of, IsSound}
-use Rattle.kit_ruled_views.proofs.Located.{located}
+use Rattle.kit_ruled_views.proofs.programs.Located.{located}
 
 function_or_not : (k : KitOp) → (k ≡ ops.Func) ⊎ (k ≡ ops.Func → ⊥)
 function_or_not ops.Func = inl refl

@@ -15,7 +15,7 @@ use Rattle.kit_checks.specs.Sites.{Listed, Around, operation_list, block_list, r
 use Rattle.kit_ruled_views.specs.Ruled.{KitTree, kit_world, IsRuledFunction}
 use Rattle.kit_ruled_views.proofs.FunctionSites.{KitBlocks, KitBody, outer_if, inner_place}
 use Rattle.kit_ruled_views.specs.Paths.{is_function_named, is_module_named, first_with, members_in, locate}
-use Rattle.kit_ruled_views.proofs.Located.{function_kind_of}
+use Rattle.kit_ruled_views.proofs.programs.Located.{function_kind_of}
 
 -- the operation is at a place of the tree
 record IsPlaced (t u : KitTree) : Type 0 where

@@ -33,8 +33,8 @@ use Rattle.kit_ruled_views.proofs.FunctionTypes as types
 use Rattle.kit_ruled_views.proofs.FunctionTypes.{typed_function}
 use Rattle.kit_ruled_views.proofs.FunctionViews.{flat_view}
 use Rattle.kit_ruled_views.specs.Sound.{tree_of, IsHolder, IsInFunction, IsSound}
-use Rattle.kit_ruled_views.proofs.Lifted.{lift, lift_block, lifted, lifted_blocks, inside_there, blocks_inside}
-use Rattle.kit_ruled_views.proofs.RuledScopes.{ruled_ends, ruled_sees}
+use Rattle.kit_ruled_views.proofs.programs.Lifted.{lift, lift_block, lifted, lifted_blocks, inside_there, blocks_inside}
+use Rattle.kit_ruled_views.proofs.programs.RuledScopes.{ruled_ends, ruled_sees}
 
 -- ---- parts of lists
 

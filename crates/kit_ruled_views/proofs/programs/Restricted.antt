@@ -26,9 +26,9 @@ use Rattle.kit_views.specs.Reading.{kit_contents}
 use Rattle.kit_views.proofs.Definers.{heads_are}
 use Rattle.kit_ruled_views.specs.ProgramLaws.{AreTold}
 use Rattle.kit_ruled_views.specs.Sound.{tree_of, IsSound}
-use Rattle.kit_ruled_views.proofs.Inside.{Function, up, up_block, there, block_there, same_up}
-use Rattle.kit_ruled_views.proofs.DeadInside.{Inside, dead_down, dead_up, forwards_up, forwards_down}
-use Rattle.kit_ruled_views.proofs.DeadInside.{forwarded_inside}
+use Rattle.kit_ruled_views.proofs.programs.Inside.{Function, up, up_block, there, block_there, same_up}
+use Rattle.kit_ruled_views.proofs.programs.DeadInside.{Inside, dead_down, dead_up, forwards_up, forwards_down}
+use Rattle.kit_ruled_views.proofs.programs.DeadInside.{forwarded_inside}
 
 -- where a test of names says so, the name is among these
 pub has_is : {X : Type 0} (same : X → X → Bool) → IsSameness same → (x : X) (xs : List X) → Has x xs →

@@ -25,13 +25,13 @@ use Rattle.kit_views.proofs.Definers.{heads_are}
 use Rattle.kit_views.proofs.Lists.{to_distinct}
 use Rattle.kit_ruled_views.specs.ProgramLaws.{AreTold}
 use Rattle.kit_ruled_views.specs.Sound.{tree_of, IsSound}
-use Rattle.kit_ruled_views.proofs.FactsInside.{facts_in, facts_out, in_of, in_runs, out_of, out_runs, closed_in}
-use Rattle.kit_ruled_views.proofs.FactsInside.{closed_up, closed_elsewhere, foreign, entries_from, entries_same}
-use Rattle.kit_ruled_views.proofs.FactsInside.{op_named, block_named}
-use Rattle.kit_ruled_views.proofs.Inside.{Function, up, up_block, there, block_there, block_pair, same_up}
-use Rattle.kit_ruled_views.proofs.Inside.{maker_up, taker_up}
-use Rattle.kit_ruled_views.proofs.Lifted.{blocks_inside, one_operation}
-use Rattle.kit_ruled_views.proofs.Restricted.{has_is, is_has, left_true, right_true}
+use Rattle.kit_ruled_views.proofs.programs.FactsInside.{facts_in, facts_out, in_of, in_runs, out_of, out_runs, closed_in}
+use Rattle.kit_ruled_views.proofs.programs.FactsInside.{closed_up, closed_elsewhere, foreign, entries_from, entries_same}
+use Rattle.kit_ruled_views.proofs.programs.FactsInside.{op_named, block_named}
+use Rattle.kit_ruled_views.proofs.programs.Inside.{Function, up, up_block, there, block_there, block_pair, same_up}
+use Rattle.kit_ruled_views.proofs.programs.Inside.{maker_up, taker_up}
+use Rattle.kit_ruled_views.proofs.programs.Lifted.{blocks_inside, one_operation}
+use Rattle.kit_ruled_views.proofs.programs.Restricted.{has_is, is_has, left_true, right_true}
 
 used_same : {V : Type 0} (m n : V → Option IntegerAttr) (vs : List V) → ((v : V) → Has v vs → m v ≡ n v) →
     map (λ v. used_as v (m v)) vs ≡ map (λ v. used_as v (n v)) vs

@@ -9,7 +9,7 @@ use Rattle.kit_views.specs.FlatView.{FlattensTo}
 use Rattle.kit_views.specs.Reading.{kit_contents, kit_reading}
 use Rattle.kit_ruled_views.specs.Programs.{FunctionsAreFlat}
 use Rattle.kit_ruled_views.specs.Sound.{IsSound}
-use Rattle.kit_ruled_views.proofs.Located.{located}
+use Rattle.kit_ruled_views.proofs.programs.Located.{located}
 
 pub sound_flat : {N : Names} (leads : TypeHandle → Option KitType) (numbered : List ℕ → ℕ)
     (type_at : N.value → TypeHandle) (t : Root N kit_contents) → IsSound {N = N} leads numbered type_at t →

@@ -14,9 +14,9 @@ use Rattle.opt_trees.proofs.Lists.{has-map, has-from_map}
 use Rattle.opt_trees.proofs.NoneDead.{has-left, has-right}
 use Rattle.kit_behaviour.specs.Scopes.{is_in}
 use Rattle.kit_views.specs.FlatView.{IsSameness}
-use Rattle.kit_ruled_views.proofs.Restricted.{has_is, is_has, both_true, left_true, right_true, and_is}
-use Rattle.kit_ruled_views.proofs.ShallowFunctions.{IsAtRoot, IsShallow, root_of}
-use Rattle.kit_ruled_views.proofs.ShallowFunctions as functions
+use Rattle.kit_ruled_views.proofs.programs.Restricted.{has_is, is_has, both_true, left_true, right_true, and_is}
+use Rattle.kit_ruled_views.proofs.programs.ShallowFunctions.{IsAtRoot, IsShallow, root_of}
+use Rattle.kit_ruled_views.proofs.programs.ShallowFunctions as functions
 
 -- two sets that have the same of the blocks of a tree keep the same of it
 keep_same : {N : Names} {S : Contents} {s : Sort} (g k : N.block → Bool) (t : Tree N S s) (c : Inside N S s) →

@@ -24,7 +24,7 @@ use Rattle.kit_views.specs.Reading.{Reading, kit_contents, kit_reading}
 use Rattle.kit_ruled_views.specs.Paths.{locate}
 use Rattle.kit_ruled_views.specs.Programs.{HasFunctionView, IsProgramOf}
 use Rattle.kit_ruled_views.specs.Sound.{tree_of}
-use Rattle.kit_ruled_views.proofs.Located.{located}
+use Rattle.kit_ruled_views.proofs.programs.Located.{located}
 use Rattle.kit_ruled_views.specs.Operations.{operations_below}
 
 -- how many operations are in an operation of a tree

@@ -16,7 +16,7 @@ use Rattle.kit_views.specs.FlatView.{AreOps, AreFlatBlocks, FlattensTo, names_in
 use Rattle.kit_views.specs.Reading.{Reading}
 use Rattle.kit_views.proofs.Lists.{Distinct, to_distinct, from_distinct, distinct_left, distinct_right, distinct_apart}
 use Rattle.kit_views.proofs.Lists.{has_get}
-use Rattle.kit_ruled_views.proofs.FlatDefined.{results_are}
+use Rattle.kit_ruled_views.proofs.programs.FlatDefined.{results_are}
 
 abbrev raise : Place → Place
 raise (Arg b i) = Arg (suc b) i

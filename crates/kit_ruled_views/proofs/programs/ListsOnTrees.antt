@@ -11,10 +11,10 @@ use Rattle.kit_views.specs.Reading.{kit_contents}
 use Rattle.kit_ruled_views.specs.ProgramLaws.{AreTold}
 use Rattle.kit_ruled_views.specs.Programs.{IsProgramOf}
 use Rattle.kit_ruled_views.specs.TreePasses.{IsTreePass, IsSoundTree, IsTreeAfter}
-use Rattle.kit_ruled_views.proofs.DceOnPrograms.{dce_on_programs}
-use Rattle.kit_ruled_views.proofs.SccpOnPrograms.{sccp_on_programs}
-use Rattle.kit_ruled_views.proofs.SimplifyOnPrograms.{simplify_on_programs}
-use Rattle.kit_ruled_views.proofs.ProgramsOfTrees.{one_program}
+use Rattle.kit_ruled_views.proofs.programs.DceOnPrograms.{dce_on_programs}
+use Rattle.kit_ruled_views.proofs.programs.SccpOnPrograms.{sccp_on_programs}
+use Rattle.kit_ruled_views.proofs.programs.SimplifyOnPrograms.{simplify_on_programs}
+use Rattle.kit_ruled_views.proofs.programs.ProgramsOfTrees.{one_program}
 
 module _ {N : Names} (told : AreTold N) (leads : TypeHandle → Option KitType) (numbered : List ℕ → ℕ) where
   pass_on : (x : Pass) (t u : Root N kit_contents) (p : FunctionsByPath Place) → IsSoundTree {N = N} leads numbered t →

@@ -34,14 +34,14 @@ use Rattle.kit_ruled_views.specs.Paths.{locate}
 use Rattle.kit_ruled_views.specs.Programs.{HasFunctionView, IsProgramOf}
 use Rattle.kit_ruled_views.specs.Sound.{tree_of, IsSound}
 use Rattle.kit_ruled_views.specs.TreePasses.{IsSccpNamed}
-use Rattle.kit_ruled_views.proofs.FlatDefined.{flat_defined}
-use Rattle.kit_ruled_views.proofs.FlatDistinct.{flat_distinct}
-use Rattle.kit_ruled_views.proofs.Inside.{function_at}
-use Rattle.kit_ruled_views.proofs.MadeByPlace.{made_agrees}
-use Rattle.kit_ruled_views.proofs.NamesKept.{told_fresh, fresh_law, placed_under, one_to_one_inside}
-use Rattle.kit_ruled_views.proofs.PropagationByPlace.{placed_facts, placed_best, constants_placed}
-use Rattle.kit_ruled_views.proofs.PutLocated.{old_root, locate_put, locate_renamed, RunningFunction, running}
-use Rattle.kit_ruled_views.proofs.SccpInside.{function_sccp}
+use Rattle.kit_ruled_views.proofs.programs.FlatDefined.{flat_defined}
+use Rattle.kit_ruled_views.proofs.programs.FlatDistinct.{flat_distinct}
+use Rattle.kit_ruled_views.proofs.programs.Inside.{function_at}
+use Rattle.kit_ruled_views.proofs.programs.MadeByPlace.{made_agrees}
+use Rattle.kit_ruled_views.proofs.programs.NamesKept.{told_fresh, fresh_law, placed_under, one_to_one_inside}
+use Rattle.kit_ruled_views.proofs.programs.PropagationByPlace.{placed_facts, placed_best, constants_placed}
+use Rattle.kit_ruled_views.proofs.programs.PutLocated.{old_root, locate_put, locate_renamed, RunningFunction, running}
+use Rattle.kit_ruled_views.proofs.programs.SccpInside.{function_sccp}
 
 told_as_name : {V : Type 0} (same : V → V → Bool) (x y : OldOrNewName V) →
     told_fresh same (as_name x) (as_name y) ≡ same_name same x y

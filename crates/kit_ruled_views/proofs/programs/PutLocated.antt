@@ -18,8 +18,8 @@ use Rattle.kit.specs.Meaning.{KitOperation, kit}
 use Rattle.kit_views.specs.Reading.{kit_contents}
 use Rattle.kit_ruled_views.specs.Paths.{is_function_named, is_module_named, first_with, members_in, locate}
 use Rattle.kit_ruled_views.specs.Sound.{tree_of}
-use Rattle.kit_ruled_views.proofs.Lifted.{inside_there}
-use Rattle.kit_ruled_views.proofs.Located.{function_kind_of}
+use Rattle.kit_ruled_views.proofs.programs.Lifted.{inside_there}
+use Rattle.kit_ruled_views.proofs.programs.Located.{function_kind_of}
 
 -- a test that no constant passes
 abbrev NoConstant : (KitOperation → Bool) → Type 0

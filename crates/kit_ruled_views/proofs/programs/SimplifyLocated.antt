@@ -26,10 +26,10 @@ use Rattle.kit.specs.Meaning.{KitOperation, kit, is_function}
 use Rattle.kit_views.specs.Reading.{kit_contents}
 use Rattle.kit_ruled_views.specs.Paths.{is_function_named, is_module_named, first_with, members_in, locate}
 use Rattle.kit_ruled_views.specs.Sound.{tree_of, IsHolder, IsInFunction, IsSound}
-use Rattle.kit_ruled_views.proofs.Lifted.{one_block, one_operation, inside_there, blocks_inside}
-use Rattle.kit_ruled_views.proofs.Located.{IsHolding, Tests, holder_no_branch, function_tests, module_tests}
-use Rattle.kit_ruled_views.proofs.Located.{function_kind_of, module_kind_of}
-use Rattle.kit_ruled_views.proofs.Inside.{function_at, up, up_block, inside_up, block_there, pair}
+use Rattle.kit_ruled_views.proofs.programs.Lifted.{one_block, one_operation, inside_there, blocks_inside}
+use Rattle.kit_ruled_views.proofs.programs.Located.{IsHolding, Tests, holder_no_branch, function_tests, module_tests}
+use Rattle.kit_ruled_views.proofs.programs.Located.{function_kind_of, module_kind_of}
+use Rattle.kit_ruled_views.proofs.programs.Inside.{function_at, up, up_block, inside_up, block_there, pair}
 
 -- a test that no branch passes
 abbrev NoBranch : (KitOperation → Bool) → Type 0

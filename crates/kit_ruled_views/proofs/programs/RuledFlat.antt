@@ -24,9 +24,9 @@ use Rattle.kit_views.specs.FlatView.{IsSameness, AreOps, AreFlatBlocks, Flattens
 use Rattle.kit_views.specs.Reading.{Reading, kit_contents, kit_reading}
 use Rattle.kit_ruled_views.specs.Ruled.{KitTree, IsRuledFunction}
 use Rattle.kit_ruled_views.proofs.FunctionSites.{KitBlocks, KitBody, KitAround, own_keeps, inner_around, inner_keeps}
-use Rattle.kit_ruled_views.proofs.FlatDistinct.{flat_distinct}
-use Rattle.kit_ruled_views.proofs.FlatEnds.{LastEnds, ends_well}
-use Rattle.kit_ruled_views.proofs.FlatScopes.{Sees, AreNamed, ops_see, start_sees}
+use Rattle.kit_ruled_views.proofs.programs.FlatDistinct.{flat_distinct}
+use Rattle.kit_ruled_views.proofs.programs.FlatEnds.{LastEnds, ends_well}
+use Rattle.kit_ruled_views.proofs.programs.FlatScopes.{Sees, AreNamed, ops_see, start_sees}
 
 -- the block of the tree that a block of the flat function is
 record IsBodyOf (r : Reading kit_contents) (names : List (Ptr BasicBlock)) (bs : KitBlocks) (b : ℕ) (k : Block Value)

@@ -13,7 +13,7 @@ use Rattle.opt_trees.proofs.Lists.{has-map, has-from_map}
 use Rattle.opt_trees.proofs.NoneDead.{inside_is}
 use Rattle.opt_trees.proofs.Reached.{Holder}
 use Rattle.opt_trees.proofs.Reached as reached
-use Rattle.kit_ruled_views.proofs.Lifted.{lift, lift_block, lifted, lifted_blocks, blocks_inside, holder}
+use Rattle.kit_ruled_views.proofs.programs.Lifted.{lift, lift_block, lifted, lifted_blocks, blocks_inside, holder}
 
 module _ {N : Names} {S : Contents} where
   -- the spot is in the first region of the root itself

@@ -19,7 +19,7 @@ use Rattle.kit_views.specs.Reading.{kit_contents}
 use Rattle.kit_ruled_views.specs.Paths.{is_name, is_function_named, is_module_named, first_with}
 use Rattle.kit_ruled_views.specs.Paths.{members_in, locate}
 use Rattle.kit_ruled_views.specs.Sound.{tree_of}
-use Rattle.kit_ruled_views.proofs.Lifted.{inside_there}
+use Rattle.kit_ruled_views.proofs.programs.Lifted.{inside_there}
 
 function_kind : (k : KitOp) (b : Bool) → is_function k && b ≡ true → k ≡ ops.Func
 function_kind ops.Func b e = refl

@@ -18,7 +18,7 @@ use Rattle.kit_behaviour.proofs.Numbering.NumberingBehaviour.{name_op, name_in, 
 use Rattle.kit_behaviour.proofs.Numbering.NumberingRules.{name_at, Distinct}
 use Rattle.kit_views.proofs.Calculated.{IsCalculated, GetsIn, gets_both}
 use Rattle.kit_views.proofs.Lists.{has_get, at_has}
-use Rattle.kit_ruled_views.proofs.PropagationByPlace.{placed_facts, placed_of}
+use Rattle.kit_ruled_views.proofs.programs.PropagationByPlace.{placed_facts, placed_of}
 
 known_number : (t : Fact) (n : ℕ) → number_of t ≡ Some n → t ≡ Known n
 known_number (Known m) n e = ap Known (some_same m n e)

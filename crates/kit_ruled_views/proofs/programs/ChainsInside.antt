@@ -20,10 +20,10 @@ use Rattle.opt_trees.proofs.Orderly.{has_at}
 use Rattle.kit_behaviour.specs.Scopes.{is_in}
 use Rattle.kit_views.specs.FlatView.{IsSameness}
 use Rattle.kit_views.proofs.Lists.{has_get}
-use Rattle.kit_ruled_views.proofs.Restricted.{has_is, is_has}
-use Rattle.kit_ruled_views.proofs.ShallowFunctions.{IsShallow, root_of}
-use Rattle.kit_ruled_views.proofs.ShallowFunctions as functions
-use Rattle.kit_ruled_views.proofs.CutInside.{reached_up, reached_down, visited_there, visited_here}
+use Rattle.kit_ruled_views.proofs.programs.Restricted.{has_is, is_has}
+use Rattle.kit_ruled_views.proofs.programs.ShallowFunctions.{IsShallow, root_of}
+use Rattle.kit_ruled_views.proofs.programs.ShallowFunctions as functions
+use Rattle.kit_ruled_views.proofs.programs.CutInside.{reached_up, reached_down, visited_there, visited_here}
 
 -- what is picked is there
 cons_has : {X : Type 0} (xs ys : List X) (i : ℕ) (q : Option X) (x : X) → slice_get xs i ≡ q →

@@ -30,14 +30,14 @@ use Rattle.kit_ruled_views.specs.Paths.{locate}
 use Rattle.kit_ruled_views.specs.Programs.{HasFunctionView, IsProgramOf}
 use Rattle.kit_ruled_views.specs.Sound.{tree_of, IsSound}
 use Rattle.kit_ruled_views.specs.TreePasses.{IsDceAlone}
-use Rattle.kit_ruled_views.proofs.FlatDefined.{flat_defined}
-use Rattle.kit_ruled_views.proofs.Inside.{function_at}
-use Rattle.kit_ruled_views.proofs.Lifted.{one_operation}
-use Rattle.kit_ruled_views.proofs.DeadInside.{holder_effects}
-use Rattle.kit_ruled_views.proofs.Located.{Located, located, heads_aside, thin_root, HoldersStay}
-use Rattle.kit_ruled_views.proofs.Located.{locate_thinned}
+use Rattle.kit_ruled_views.proofs.programs.FlatDefined.{flat_defined}
+use Rattle.kit_ruled_views.proofs.programs.Inside.{function_at}
+use Rattle.kit_ruled_views.proofs.programs.Lifted.{one_operation}
+use Rattle.kit_ruled_views.proofs.programs.DeadInside.{holder_effects}
+use Rattle.kit_ruled_views.proofs.programs.Located.{Located, located, heads_aside, thin_root, HoldersStay}
+use Rattle.kit_ruled_views.proofs.programs.Located.{locate_thinned}
 use Rattle.kit_ruled_views.proofs.RemovalByPlace.{placed_dead, dead_placed, thin_placed}
-use Rattle.kit_ruled_views.proofs.Restricted.{rest, function_dce, function_unpinned}
+use Rattle.kit_ruled_views.proofs.programs.Restricted.{rest, function_dce, function_unpinned}
 
 -- nothing is dead in a function that is not there
 none_dead : flat.IsDeadSet same_place None (λ v. false)

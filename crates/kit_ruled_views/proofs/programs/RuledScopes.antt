@@ -29,7 +29,7 @@ use Rattle.kit_views.specs.Laws.{EndWell}
 use Rattle.kit_views.specs.Reading.{Reading, kit_contents, kit_reading}
 use Rattle.kit_ruled_views.specs.Ruled.{KitTree, IsRuledFunction}
 use Rattle.kit_ruled_views.proofs.FunctionSites.{KitBlocks, KitBody, KitAround, own_keeps, inner_around, inner_keeps}
-use Rattle.kit_ruled_views.proofs.FlatDefined.{results_are}
+use Rattle.kit_ruled_views.proofs.programs.FlatDefined.{results_are}
 
 abbrev KitOps : Type 0
 KitOps = Listed KitOperation KitBlock Operations

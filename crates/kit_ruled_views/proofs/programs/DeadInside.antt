@@ -22,10 +22,10 @@ use Rattle.kit.specs.Meaning.{kit}
 use Rattle.kit_views.specs.Reading.{kit_contents}
 use Rattle.kit_views.proofs.Lists.{has_get}
 use Rattle.kit_ruled_views.specs.Sound.{tree_of, IsHolder, IsInFunction, IsSound}
-use Rattle.kit_ruled_views.proofs.Lifted.{holder, one_operation}
-use Rattle.kit_ruled_views.proofs.Inside.{Function, function_at, up, up_block, inside_up, there, block_there}
-use Rattle.kit_ruled_views.proofs.Inside.{pair, same_up, same_up_block, taker_up, user_up}
-use Rattle.kit_ruled_views.proofs.SuccessorsInside.{successor_inside, target_inside}
+use Rattle.kit_ruled_views.proofs.programs.Lifted.{holder, one_operation}
+use Rattle.kit_ruled_views.proofs.programs.Inside.{Function, function_at, up, up_block, inside_up, there, block_there}
+use Rattle.kit_ruled_views.proofs.programs.Inside.{pair, same_up, same_up_block, taker_up, user_up}
+use Rattle.kit_ruled_views.proofs.programs.SuccessorsInside.{successor_inside, target_inside}
 
 -- a module or a function is never dead
 pub holder_effects : (k : KitOp) → (k ≡ ops.Func) ⊎ (k ≡ ops.Module) → (row_of k).has_effects ≡ true
