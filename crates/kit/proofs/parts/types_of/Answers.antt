@@ -27,6 +27,3 @@ returns-in_err-types c = IfOk-from_err _ _ c.from_residual.ensures.0
 
 pub returns-in_err-push : goal.returns-in_err-push
 returns-in_err-push c = IfOk-from_err _ _ c.from_residual-in_err-push.ensures.0
-
-pub type_in-requires : goal.type_in-requires
-type_in-requires c = λ ks le. le
