@@ -1,3 +1,4 @@
+pub mod ReadModules
 pub mod ReadLemmas
 pub mod HoldingLemmas
 pub mod WrittenLemmas

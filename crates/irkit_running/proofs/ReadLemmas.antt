@@ -13,7 +13,7 @@ use Rattle.kit_checks.specs.Faults.{IsVerdict}
 use Rattle.kit_checks.specs.World.{world_of}
 use Rattle.kit_checks.specs.declared.rule.RuleFault.{RuleFault}
 use Rattle.kit_checks.specs.declared.rule.RuleFault.TheVariants as rule
-use Rattle.kit_ruled_passes.specs.Held.{KitSeen}
+use Rattle.irkit_running.specs.Known.{KitSeen}
 use Rattle.kit_language.specs.Language.{kit_language}
 use Rattle.kit_ruled_passes.specs.Entering.{IsEnteredNowhere}
 use Rattle.kit_ruled_views.specs.Functions.{KitContext, IsSelfContained}

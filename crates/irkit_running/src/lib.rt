@@ -7,6 +7,7 @@
 //! contract says, by cases on the whole answer, what was read and written then.
 #![tactic(auto)]
 
+mod apart;
 mod knowing;
 mod loading;
 mod running;

@@ -6,6 +6,7 @@ ghost use Rattle.irkit_streams.specs.Streams.{has_failed};
 ghost use Rattle.irkit_running.specs.Known.{CanBeWritten, HasGrammar};
 ghost use Rattle.irkit_running.specs.Outcomes.{EndsLoad, Understands};
 
+use crate::apart::know_read_module;
 use crate::knowing::know_holding;
 use ir_context::Context;
 use ir_program::{IRNode, Operation, Ptr};
@@ -13,7 +14,6 @@ use irkit_refusals::Refusal;
 use irkit_streams::{Watched, decode, read_to_end};
 use kit::Kit;
 use kit_language::kit_can_print;
-use kit_ruled_passes::know_read_module;
 use kit_verifier::verify_module;
 use kit_writable_trees::texts_are_writable;
 use std::alloc::Global;

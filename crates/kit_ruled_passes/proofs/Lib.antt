@@ -20,7 +20,6 @@ pub mod AloneAfter
 pub mod HomesAfter
 pub mod NoLiveUse
 pub mod RootSurroundings
-pub mod ReadModules
 pub mod LeftApart
 pub mod PassIncludes
 pub mod ConstantsPut

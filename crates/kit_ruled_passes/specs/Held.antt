@@ -6,12 +6,8 @@ use Rattle.ir_program.specs.declared.handles.Ptr.{Ptr}
 use Rattle.ir_trees.specs.Stands.{by_handle, StandsFor}
 use Rattle.opt_inside.specs.Around.{SaysAround}
 use Rattle.opt_trees.specs.Dce.{TreeSurroundings}
-use Rattle.text_dialect.specs.Seen.{Seen}
 use Rattle.kit.specs.Meaning.{kit}
 use Rattle.kit_ops.specs.declared.attributes.IntegerAttr.{IntegerAttr}
-use Rattle.kit_ops.specs.declared.attributes.KitAttr.{KitAttr}
-use Rattle.kit_ops.specs.declared.kinds.KitOp.{KitOp}
-use Rattle.kit_ops.specs.declared.types.KitType.{KitType}
 use Rattle.kit_ruled_passes.specs.Entering.{IsEnteredNowhere}
 use Rattle.kit_ruled_views.specs.Functions.{KitContext, IsSelfContained, KeepsRules}
 use Rattle.kit_ruled_views.specs.Ruled.{KitTree}
@@ -28,7 +24,3 @@ pub record HoldsModule (s : KitContext) (root : Ptr Operation) : Type 0 where
 abbrev pub OfModule : KitContext → Ptr Operation → (TreeSurroundings by_handle IntegerAttr → KitTree → Type 0) → Type 0
 OfModule s root P = (w : TreeSurroundings by_handle IntegerAttr) → SaysAround kit s.program root w →
     (t : KitTree) → StandsFor s.program root t → P w t
-
--- what texts need of a context of `kit`
-abbrev pub KitSeen : Type 0
-KitSeen = Seen KitOp KitAttr KitType

@@ -8,7 +8,6 @@ mod live_uses;
 mod naming;
 mod operands;
 mod premises;
-mod reading;
 mod refusals;
 mod surroundings;
 
@@ -19,7 +18,6 @@ pub use live_uses::know_no_live_use;
 pub use naming::know_propagated;
 pub use operands::know_determined;
 pub use premises::know_premises;
-pub use reading::know_read_module;
 pub use refusals::{know_no_refusal, know_scopes};
 pub use surroundings::know_surroundings;
 

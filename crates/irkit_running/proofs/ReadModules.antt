@@ -23,7 +23,7 @@ use Rattle.text_frames.specs.Raised.{HoldsAllNew}
 use Rattle.kit.specs.Meaning.{KitOperation}
 use Rattle.kit_ruled_passes.specs.Entering.{IsEnteredNowhere}
 use Rattle.kit_ruled_views.specs.Functions.{KitContext, IsSelfContained}
-use Rattle.kit_ruled_passes.specs.Held.{KitSeen}
+use Rattle.irkit_running.specs.Known.{KitSeen}
 
 -- what is in a row of an operation is in that of one that is there
 in_row : {Y : Type 0} (f : OperationView KitOperation → List Y) (o : Option (OperationView KitOperation)) (k : ℕ) (y : Y)

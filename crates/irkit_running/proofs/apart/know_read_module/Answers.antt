@@ -1,8 +1,8 @@
 use Rattle.std.proofs.Common.{subst}
 use Rattle.opt_inside.proofs.Added.{HasValues}
 use Rattle.text_building.proofs.Stood.{HasLists}
-use Rattle.kit_ruled_passes.proofs.ReadModules.{entered_nowhere, self_contained}
-use Rattle.kit_ruled_passes.proofs.reading.know_read_module.Goals as goal
+use Rattle.irkit_running.proofs.ReadModules.{entered_nowhere, self_contained}
+use Rattle.irkit_running.proofs.apart.know_read_module.Goals as goal
 
 pub returns : goal.returns
 returns c =
