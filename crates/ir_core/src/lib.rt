@@ -1,6 +1,16 @@
 //! The verified IR by one name: what its users call, whichever crate it stands in.
 #![tactic(auto)]
 
+mod edits;
+mod verification;
+
+pub use edits::At;
+pub use edits::Edit;
+pub use edits::Entity;
+pub use edits::PlaceAt;
+pub use edits::RegionAt;
+pub use edits::RunEdits;
+pub use edits::ValueAt;
 pub use ir_context::ArgumentCalls;
 pub use ir_context::AttrInterfaceCastErr;
 pub use ir_context::BlockCalls;
@@ -34,13 +44,6 @@ pub use ir_context::TypedProgram;
 pub use ir_context::UseCalls;
 pub use ir_context::ValueCalls;
 pub use ir_context::ValueError;
-pub use ir_edits::At;
-pub use ir_edits::Edit;
-pub use ir_edits::Entity;
-pub use ir_edits::PlaceAt;
-pub use ir_edits::RegionAt;
-pub use ir_edits::RunEdits;
-pub use ir_edits::ValueAt;
 pub use ir_names::AttrId;
 pub use ir_names::AttrInterface;
 pub use ir_names::AttrName;
@@ -113,11 +116,11 @@ pub use ir_types::SavedKey;
 pub use ir_types::TypeInterfaceHandleErr;
 pub use ir_types::TypedHandleErr;
 pub use ir_types::Types;
-pub use ir_verify::BasicBlockVerifyErr;
-pub use ir_verify::Verifiers;
-pub use ir_verify::Verify;
-pub use ir_verify::VerifyErr;
-pub use ir_verify::verify_attr;
-pub use ir_verify::verify_op;
-pub use ir_verify::verify_operation;
-pub use ir_verify::verify_type;
+pub use verification::BasicBlockVerifyErr;
+pub use verification::Verifiers;
+pub use verification::Verify;
+pub use verification::VerifyErr;
+pub use verification::verify_attr;
+pub use verification::verify_op;
+pub use verification::verify_operation;
+pub use verification::verify_type;

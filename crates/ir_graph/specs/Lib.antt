@@ -7,3 +7,4 @@ pub mod Reverse
 pub mod ReverseLaws
 pub mod ReverseNodes
 pub mod Sinks
+pub mod edge_lists

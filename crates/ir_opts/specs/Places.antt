@@ -12,13 +12,13 @@ use Rattle.opt_dialect.specs.declared.status.IRStatus.{IRStatus}
 use Rattle.opt_dialect.specs.declared.status.IRStatus.TheVariants.{Unchanged}
 use Rattle.opt_dialect.specs.declared.status.OptError.{OptError}
 use Rattle.opt_dialect.specs.declared.status.OptError.TheVariants.{LiveUse, Memory}
-use Rattle.opt_reach.specs.Starts.{IsStartIn}
-use Rattle.opt_reach.specs.declared.starts.Start.{Start}
-use Rattle.opt_reach.specs.declared.starts.Start.TheVariants.{Operation as AtOperation, Block as AtBlock, Region as AtRegion}
-use Rattle.opt_chains.specs.Phases.{MergesBlocks}
-use Rattle.opt_merge.specs.Answers.{HasCircle, HasNoCircle, HasNoneJoinable}
-use Rattle.opt_simplify.specs.Phases.{RemovesBlocks}
-use Rattle.opt_simplify.specs.Refusals.{HasNoneUnreached, LosesNone, LosesUses}
+use Rattle.opt_inside.specs.reach.Starts.{IsStartIn}
+use Rattle.opt_inside.specs.declared.reach.starts.Start.{Start}
+use Rattle.opt_inside.specs.declared.reach.starts.Start.TheVariants.{Operation as AtOperation, Block as AtBlock, Region as AtRegion}
+use Rattle.ir_opts.specs.chains.Phases.{MergesBlocks}
+use Rattle.ir_opts.specs.joining.Answers.{HasCircle, HasNoCircle, HasNoneJoinable}
+use Rattle.ir_opts.specs.unreached.Phases.{RemovesBlocks}
+use Rattle.ir_opts.specs.unreached.Refusals.{HasNoneUnreached, LosesNone, LosesUses}
 
 -- the operation that holds the place: itself, or the one in whose region the block is, or whose region it is
 abbrev pub IsRootOf : {O B : Type 0} → Program O B → Start → Ptr Operation → Type 0

@@ -5,17 +5,17 @@ ghost use Rattle.ir_program.specs.Program.{operation_at, region_at};
 ghost use Rattle.ir_program.specs.declared.handles.Operation.{Operation};
 ghost use Rattle.ir_program.specs.declared.handles.Ptr.{Ptr};
 ghost use Rattle.ir_opts.specs.Places.{AnswersMerging, IsRootOf};
-ghost use Rattle.opt_reach.specs.Edges.{FitsEdgesFrom, HasLocalEdgesFrom};
-ghost use Rattle.opt_reach.specs.declared.starts.Start.TheVariants as start;
-ghost use Rattle.opt_rewriter.specs.Points.{LeavesErased};
+ghost use Rattle.opt_inside.specs.reach.Edges.{FitsEdgesFrom, HasLocalEdgesFrom};
+ghost use Rattle.opt_inside.specs.declared.reach.starts.Start.TheVariants as start;
+ghost use Rattle.ir_opts.specs.rewriting.Points.{LeavesErased};
 
+use crate::joining::merge_chains;
 use crate::places::{root_of_block, root_of_region};
+use crate::rewriting::Rewriter;
 use ir_context::{TypeTable, TypedProgram};
 use ir_program::{BasicBlock, Operation, Ptr, Region};
 use opt_dialect::{IRStatus, OptDialect, OptError};
-use opt_merge::merge_chains;
-use opt_reach::Start;
-use opt_rewriter::Rewriter;
+use opt_inside::reach::Start;
 use std::alloc::Global;
 
 /// Joins chains of blocks where looking begins at a place of an operation.

@@ -5,16 +5,16 @@ ghost use Rattle.ir_program.specs.Program.{block_at, operation_at, region_at};
 ghost use Rattle.ir_program.specs.declared.handles.Operation.{Operation};
 ghost use Rattle.ir_program.specs.declared.handles.Ptr.{Ptr};
 ghost use Rattle.ir_opts.specs.Places.{AnswersRemoval, IsRootOf};
-ghost use Rattle.opt_reach.specs.Edges.{HasLocalEdgesFrom};
-ghost use Rattle.opt_reach.specs.declared.starts.Start.TheVariants as start;
-ghost use Rattle.opt_rewriter.specs.Points.{LeavesErased};
+ghost use Rattle.opt_inside.specs.reach.Edges.{HasLocalEdgesFrom};
+ghost use Rattle.opt_inside.specs.declared.reach.starts.Start.TheVariants as start;
+ghost use Rattle.ir_opts.specs.rewriting.Points.{LeavesErased};
 
+use crate::rewriting::Rewriter;
+use crate::unreached::remove_unreached;
 use ir_context::{TypeTable, TypedProgram};
 use ir_program::{BasicBlock, Operation, Program, Ptr, Region};
 use opt_dialect::{IRStatus, OptDialect, OptError};
-use opt_reach::Start;
-use opt_rewriter::Rewriter;
-use opt_simplify::remove_unreached;
+use opt_inside::reach::Start;
 use std::alloc::Global;
 
 /// The operation in whose region a block is.

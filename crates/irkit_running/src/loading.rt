@@ -1,7 +1,7 @@
 //! From a reader to a module of a context.
 ghost use Rattle.std.specs.Prelude.{◌≡◌, false, IfOk};
 ghost use Rattle.ir_program.specs.Edits.{KeepsErased};
-ghost use Rattle.text_building.specs.Kept.{KeepsPayloads};
+ghost use Rattle.text_reading.specs.building.Kept.{KeepsPayloads};
 ghost use Rattle.irkit_streams.specs.Streams.{has_failed};
 ghost use Rattle.irkit_running.specs.Known.{CanBeWritten, HasGrammar};
 ghost use Rattle.irkit_running.specs.Outcomes.{EndsLoad, Understands};
@@ -18,7 +18,7 @@ use kit_verifier::verify_module;
 use kit_writable_trees::texts_are_writable;
 use std::alloc::Global;
 use std::io::Read;
-use text_building::discard;
+use text_reading::building::discard;
 use text_reading::top_level_parse;
 use text_rereading::laws::trees_of_texts_are_closed;
 

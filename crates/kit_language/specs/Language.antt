@@ -5,7 +5,7 @@ use Rattle.ir_rereading.specs.Texts.{language_of}
 use Rattle.kit_ops.specs.Table.{has_interface}
 use Rattle.kit.specs.Forms.{formats, read_ops}
 use Rattle.kit.specs.Says.{values}
-use Rattle.text_formats.specs.Isolated.{is_isolated}
+use Rattle.text_dialect.specs.formats.Isolated.{is_isolated}
 
 -- the formats of the kinds that can be read, which of them are isolated, and what is made of pieces
 abbrev pub kit_language : Language

@@ -3,7 +3,7 @@ ghost use Rattle.std.specs.Prelude.{◌≡◌};
 ghost use Rattle.ir_rereading.specs.Printable.{CanPrint};
 ghost use Rattle.ir_rereading.specs.Texts.{language_of};
 ghost use Rattle.kit_language.specs.Language.{kit_language};
-ghost use Rattle.text_formats.specs.Isolated.{is_isolated};
+ghost use Rattle.text_dialect.specs.formats.Isolated.{is_isolated};
 
 use ir_types::DialectTables;
 use kit::Kit;

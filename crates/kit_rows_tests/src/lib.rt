@@ -11,6 +11,8 @@ mod flat_modules;
 #[cfg(test)]
 mod flat_runs;
 #[cfg(test)]
+mod module_reader;
+#[cfg(test)]
 mod optimising;
 #[cfg(test)]
 mod passes;

@@ -1,4 +1,5 @@
 //! What becomes of a module that is read from a text: verdicts, what optimisations make of it, and runs.
+use crate::module_reader::{Unread, read, write_number, written};
 use crate::optimising::{Pass, optimise_all};
 use ir_context::{Context, OperationCalls};
 use ir_names::Identifier;
@@ -8,7 +9,6 @@ use kit_checks::RuleFault;
 use kit_execution::execute;
 use kit_flat::Outcome;
 use kit_interpreter::ExecFault;
-use kit_module_reader::{Unread, read, write_number, written};
 use kit_verifier::verify_module;
 use std::alloc::{AllocError, Global};
 

@@ -17,7 +17,7 @@ use Rattle.ir_program.specs.declared.handles.Ptr.{Ptr}
 use Rattle.ir_program.specs.declared.handles.Region.{Region}
 use Rattle.ir_trees.specs.Searched.{Lists}
 use Rattle.ir_trees.specs.Stands.{StandsFor, ProgramHead, head_of}
-use Rattle.opt_facts.specs.ByNumber.{LeadsBelow}
+use Rattle.opt_inside.specs.facts.ByNumber.{LeadsBelow}
 use Rattle.opt_inside.specs.Edges.{FitsEdgesBelow, HasLocalEdgesBelow}
 use Rattle.opt_inside.specs.Occurring.{IsBelowRoot, IsBlockBelow}
 use Rattle.opt_inside.proofs.Around.{HasLists}

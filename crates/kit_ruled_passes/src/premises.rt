@@ -4,7 +4,7 @@ ghost use Rattle.ir_program.specs.Program.{operation_at};
 ghost use Rattle.kit.specs.Meaning.{kit};
 ghost use Rattle.kit_ruled_passes.specs.Entering.{IsEnteredNowhere};
 ghost use Rattle.kit_ruled_views.specs.Functions.{KeepsRules};
-ghost use Rattle.opt_facts.specs.ByNumber.{LeadsBelow};
+ghost use Rattle.opt_inside.specs.facts.ByNumber.{LeadsBelow};
 ghost use Rattle.opt_inside.specs.Edges.{FitsEdgesBelow, HasLocalEdgesBelow};
 
 use ir_context::Context;

@@ -4,3 +4,6 @@ pub mod NumberedList
 pub mod Edges
 pub mod Outside
 pub mod Around
+pub mod facts
+pub mod forwarding
+pub mod reach

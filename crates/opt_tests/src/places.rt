@@ -2,10 +2,10 @@
 ghost use Rattle.std.specs.Prelude.{IsSome, OnOk};
 ghost use Rattle.ir_program.specs.Lists.{IsLinkedBlock};
 ghost use Rattle.ir_program.specs.Program.{operation_at, region_at};
-ghost use Rattle.opt_facts.specs.ByNumber.{LeadsBelow};
+ghost use Rattle.opt_inside.specs.facts.ByNumber.{LeadsBelow};
 ghost use Rattle.opt_inside.specs.Edges.{FitsEdgesBelow, HasLocalEdgesBelow};
-ghost use Rattle.opt_reach.specs.Edges.{FitsEdgesFrom, HasLocalEdgesFrom};
-ghost use Rattle.opt_reach.specs.declared.starts.Start.TheVariants as start;
+ghost use Rattle.opt_inside.specs.reach.Edges.{FitsEdgesFrom, HasLocalEdgesFrom};
+ghost use Rattle.opt_inside.specs.declared.reach.starts.Start.TheVariants as start;
 ghost use Rattle.opt_tiny.specs.Meaning.{tiny};
 
 use ir_context::{BlockCalls, BlockLists, OperationCalls, RegionCalls, TypedProgram};

@@ -1,7 +1,7 @@
 //! The optimisations, run on programs.
 ghost use Rattle.std.specs.Prelude.{IsSome, OnOk};
 ghost use Rattle.ir_program.specs.Program.{operation_at};
-ghost use Rattle.opt_facts.specs.ByNumber.{LeadsBelow};
+ghost use Rattle.opt_inside.specs.facts.ByNumber.{LeadsBelow};
 ghost use Rattle.opt_inside.specs.Edges.{FitsEdgesBelow, HasLocalEdgesBelow};
 ghost use Rattle.opt_tiny.specs.Meaning.{tiny};
 

@@ -3,3 +3,4 @@ pub mod Standing
 pub mod Printed
 pub mod Making
 pub mod Ids
+pub mod formats

@@ -5,5 +5,6 @@
 #![tactic(auto)]
 
 mod dialect;
+pub mod formats;
 
 pub use dialect::{MakeFault, OperationDraft, TextDialect};

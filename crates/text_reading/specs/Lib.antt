@@ -1,2 +1,5 @@
 pub mod Judged
 pub mod Understood
+pub mod assembling
+pub mod frames
+pub mod building

@@ -4,7 +4,10 @@
 //! it says into a context, or names the fault that is met first.
 #![tactic(auto)]
 
+mod assembling;
+pub mod building;
 mod finding;
+mod frames;
 mod reading;
 
 pub use reading::top_level_parse;

@@ -3,8 +3,8 @@ use Rattle.std.proofs.Common.{◌↔◌, Ok, ap, ◌∙◌, subst}
 use Rattle.ir_trees.specs.Stands.{ProgramTree, StandsFor}
 use Rattle.opt_dialect.specs.Statuses.{either}
 use Rattle.opt_inside.specs.Edges.{FitsEdgesBelow, HasLocalEdgesBelow}
-use Rattle.opt_reach.specs.Edges.{FitsEdgesFrom, HasLocalEdgesFrom}
-use Rattle.opt_reach.specs.declared.starts.Start.TheVariants.{Operation as AtOperation}
+use Rattle.opt_inside.specs.reach.Edges.{FitsEdgesFrom, HasLocalEdgesFrom}
+use Rattle.opt_inside.specs.declared.reach.starts.Start.TheVariants.{Operation as AtOperation}
 use Rattle.ir_opts.proofs.ThreePhases.{is_there, begins, nothing_done, removing_stops, joining_stops}
 use Rattle.ir_opts.proofs.WholeTrees.{tree_simplified}
 use Rattle.ir_opts.proofs.control_flow.simplify_cfg.Goals as goal

@@ -2,7 +2,7 @@ use Rattle.std.proofs.Common.{◌≡◌, sym, subst}
 use Rattle.ir_program.specs.declared.handles.Operation.{Operation}
 use Rattle.ir_program.specs.declared.handles.Ptr.{Ptr}
 use Rattle.ir_opts.specs.Places.{AnswersMerging, IsRootOf}
-use Rattle.opt_reach.specs.declared.starts.Start.TheVariants.{Region as AtRegion}
+use Rattle.opt_inside.specs.declared.reach.starts.Start.TheVariants.{Region as AtRegion}
 use Rattle.ir_opts.proofs.merging.merge_inside_region.Goals as goal
 
 pub merge_from-requires-clause-fits : goal.merge_from-requires-clause-fits

@@ -1,7 +1,7 @@
 use Rattle.std.proofs.Common.{◌∙◌, sym, subst}
 use Rattle.opt_inside.specs.Edges.{FitsEdgesBelow}
-use Rattle.opt_reach.specs.Edges.{FitsEdgesFrom}
-use Rattle.opt_reach.specs.declared.starts.Start.TheVariants.{Operation as AtOperation}
+use Rattle.opt_inside.specs.reach.Edges.{FitsEdgesFrom}
+use Rattle.opt_inside.specs.declared.reach.starts.Start.TheVariants.{Operation as AtOperation}
 use Rattle.opt_tests.proofs.places.test_below.Goals as goal
 
 pub returns-clause-fits : goal.returns-clause-fits

@@ -1,5 +1,5 @@
 use Rattle.std.proofs.Common.{subst}
-use Rattle.opt_reach.specs.Edges.{FitsEdgesFrom}
+use Rattle.opt_inside.specs.reach.Edges.{FitsEdgesFrom}
 use Rattle.opt_tiny.specs.Meaning.{tiny}
 use Rattle.opt_tests.proofs.places.test_edges.Goals as goal
 

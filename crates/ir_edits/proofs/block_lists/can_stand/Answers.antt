@@ -1,7 +1,0 @@
-use Rattle.std.proofs.Common.{sym, ◌∙◌}
-use Rattle.ir_program.specs.Lists.{StandsInRegion}
-use Rattle.ir_edits.proofs.Asked.{can_stand_where}
-use Rattle.ir_edits.proofs.block_lists.can_stand.Goals as goal
-
-pub returns-then-is_live : goal.returns-then-is_live
-returns-then-is_live g c = can_stand_where (StandsInRegion c.args.ctx.now.program c.args.block) c.is_linked.result (sym c.is_live.ensures ∙ c.if-is_live.true) c.is_linked.ensures.linked

@@ -1,9 +1,0 @@
-use Rattle.std.proofs.Common.{◌≡◌, ℕ, ◌<◌, Some, slice_get}
-use Rattle.ir_program.specs.declared.handles.Ptr.{Ptr}
-use Rattle.ir_program.specs.declared.handles.Operation.{Operation}
-use Rattle.ir_edits.specs.declared.edit.PlaceAt.{PlaceAt}
-use Rattle.ir_edits.specs.Naming.{operation_named}
-use Rattle.ir_edits.proofs.listed_uses.are_named.Given as goal
-
-abbrev pub invariant-loop-place : goal.invariant-loop-place
-invariant-loop-place l = (j : ℕ) (place : PlaceAt) → j < l.place-index → slice_get l.places j ≡ Some place → (p : Ptr Operation) × (operation_named l.made place.user_op ≡ Some p) × Unit {0}

@@ -1,0 +1,8 @@
+//! Constant propagation.
+
+mod propagating;
+mod putting;
+mod wanted;
+
+pub use propagating::sccp;
+pub use putting::{Made, put_constants};

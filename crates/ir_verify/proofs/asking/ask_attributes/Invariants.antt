@@ -1,6 +1,0 @@
-use Rattle.ir_verify.specs.Tests.{tests_of_attributes}
-use Rattle.ir_verify.proofs.Passed.{HasPassed}
-use Rattle.ir_verify.proofs.asking.ask_attributes.Given as goal
-
-abbrev pub invariant-loop-name : goal.invariant-loop-name
-invariant-loop-name g l = HasPassed (g.V.Verifiers.accepts l.verifiers l.ctx) (tests_of_attributes l.fn.attributes) (tests_of_attributes l._name-iterator)

@@ -1,8 +1,0 @@
-use Rattle.ir_names.specs.declared.interfaces.OpInterface.TheVariants.{IsTerminator}
-use Rattle.ir_program.specs.Lists.{operations_in}
-use Rattle.ir_verify.specs.Endings.{implements}
-use Rattle.ir_verify.proofs.Early.{IsLooked}
-use Rattle.ir_verify.proofs.blocks.has_early_terminator.Given as goal
-
-abbrev pub invariant-loop-op : goal.invariant-loop-op
-invariant-loop-op g l = IsLooked (implements g.D.DialectTables.op_has l.ctx.program IsTerminator) (operations_in l.ctx.program l.fn.block) l.found l.op-iterator

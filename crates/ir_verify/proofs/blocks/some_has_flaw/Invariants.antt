@@ -1,7 +1,0 @@
-use Rattle.ir_program.specs.Preorder.{nodes_inside}
-use Rattle.ir_verify.specs.Endings.{IsFlawed}
-use Rattle.ir_verify.proofs.Passed.{HasPassed}
-use Rattle.ir_verify.proofs.blocks.some_has_flaw.Given as goal
-
-abbrev pub invariant-loop-node : goal.invariant-loop-node
-invariant-loop-node g l = HasPassed (λ node. IsFlawed g.D.DialectTables.op_has l.ctx.program l.flaw node → ⊥) (nodes_inside l.ctx.program l.fn.outer) l.node-iterator

@@ -1,7 +1,0 @@
-use Rattle.std.proofs.Common.{◌≡◌, take}
-use Rattle.ir_program.specs.Program.{results_at}
-use Rattle.opt_facts.specs.Folds.{result_types}
-use Rattle.opt_facts.proofs.folding.types_of_results.Given as goal
-
-abbrev pub invariant-loop-i : goal.invariant-loop-i
-invariant-loop-i g l = l.types.items ≡ take l.i (result_types (results_at l.program l.op))

@@ -1,9 +1,0 @@
-use Rattle.std.proofs.Common.{◌≡◌, take}
-use Rattle.std.specs.Prelude.{map}
-use Rattle.ir_program.specs.Rows.{operands_at}
-use Rattle.opt_inside.specs.Numbered.{numbers_of}
-use Rattle.opt_facts.specs.Problem.{value_number}
-use Rattle.opt_facts.proofs.numbers.operand_numbers.Given as goal
-
-abbrev pub invariant-loop-i : goal.invariant-loop-i
-invariant-loop-i g l = l.row.items ≡ map (value_number (numbers_of l.inside)) (take l.i (operands_at l.program l.op))

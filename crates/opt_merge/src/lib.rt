@@ -1,7 +1,0 @@
-//! Joining chains of blocks.
-#![tactic(auto)]
-
-mod merge;
-mod plan;
-
-pub use merge::merge_chains;

@@ -1,6 +1,0 @@
-use Rattle.opt_reach.proofs.Marks.{HasRows}
-use Rattle.opt_reach.proofs.paths.path_rows.Given as goal
-
--- the rows of the first blocks
-abbrev pub invariant-loop-block : goal.invariant-loop-block
-invariant-loop-block g l = HasRows l.program l.blocks.keys l.block-index l.rows.items

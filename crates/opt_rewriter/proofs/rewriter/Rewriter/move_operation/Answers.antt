@@ -1,5 +1,0 @@
-use Rattle.opt_rewriter.proofs.Unlinked.{still_place}
-use Rattle.opt_rewriter.proofs.rewriter.Rewriter.move_operation.Goals as goal
-
-pub put-requires-clause-place : goal.put-requires-clause-place
-put-requires-clause-place g c = still_place c.args.ctx.now.program c.unlink.new.ctx.program c.args.op c.requires.linked c.unlink.ensures.edited c.args.to c.requires.place c.requires.apart

@@ -1,8 +1,0 @@
-//! A rewriter of programs, with insertion points.
-#![tactic(auto)]
-
-mod point;
-mod rewriter;
-
-pub use point::OpInsertionPoint;
-pub use rewriter::Rewriter;

@@ -1,9 +1,0 @@
-//! Constant propagation.
-#![tactic(auto)]
-
-mod propagating;
-mod putting;
-mod wanted;
-
-pub use propagating::sccp;
-pub use putting::{Made, put_constants};

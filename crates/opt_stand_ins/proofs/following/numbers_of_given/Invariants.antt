@@ -1,6 +1,0 @@
-use Rattle.opt_stand_ins.proofs.FollowingLemmas.{AreNumbersUpTo}
-use Rattle.opt_stand_ins.proofs.following.numbers_of_given.Given as goal
-
--- the numbers of the values before this one
-abbrev pub invariant-loop-value : goal.invariant-loop-value
-invariant-loop-value l = AreNumbersUpTo l.inside.values.keys l.given l.value-index l.next.items

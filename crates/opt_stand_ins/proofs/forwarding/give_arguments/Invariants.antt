@@ -1,8 +1,0 @@
-use Rattle.std.proofs.Common.{take}
-use Rattle.opt_stand_ins.specs.Forwarded.{IsPaired}
-use Rattle.opt_stand_ins.specs.Tables.{Gives}
-use Rattle.opt_stand_ins.proofs.forwarding.give_arguments.Given as goal
-
--- the values before this one are given
-abbrev pub invariant-loop-index : goal.invariant-loop-index
-invariant-loop-index g l = Gives l.inside.values.keys (IsPaired l.program l.block (take l.index l.values)) l.initial.given.items l.given.items
