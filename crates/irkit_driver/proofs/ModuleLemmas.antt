@@ -30,8 +30,8 @@ use Rattle.kit_optimiser.specs.Functions.{function_content}
 use Rattle.kit_optimiser.proofs.HandlesTold.{handles_told}
 use Rattle.kit_optimiser.proofs.HeadsKept.{list_keeps}
 use Rattle.kit_optimiser.specs.Passed.{pass_of}
-use Rattle.kit_optimiser.specs.declared.pass.KitPass.{KitPass}
-use Rattle.kit_optimiser.specs.declared.pass.KitPass.TheVariants.{Sccp}
+use Rattle.kit_ops.specs.declared.pass.KitPass.{KitPass}
+use Rattle.kit_ops.specs.declared.pass.KitPass.TheVariants.{Sccp}
 use Rattle.kit_ruled_views.specs.Functions.{KitContext}
 use Rattle.kit_ruled_views.specs.Ruled.{KitTree, type_or_first}
 use Rattle.kit_ruled_views.proofs.HandleSameness.{values_apart}

@@ -13,7 +13,7 @@ use Rattle.kit_ruled_views.specs.Operations.{operations_below}
 use Rattle.kit_ruled_views.proofs.programs.FunctionSizes.{one_pass}
 use Rattle.kit_optimiser.specs.Programs.{PassedPrograms}
 use Rattle.kit_optimiser.specs.Passed.{pass_of}
-use Rattle.kit_optimiser.specs.declared.pass.KitPass.{KitPass}
+use Rattle.kit_ops.specs.declared.pass.KitPass.{KitPass}
 use Rattle.kit_ruled_views.specs.Functions.{KitContext}
 use Rattle.kit_ruled_views.specs.Ruled.{KitTree}
 use Rattle.kit_text_programs.specs.Laws.{TextsHaveOneProgram}

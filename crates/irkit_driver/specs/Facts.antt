@@ -8,8 +8,8 @@ use Rattle.kit_behaviour.specs.Facts as flat
 use Rattle.kit_behaviour.specs.Machine.{FunctionsByPath}
 use Rattle.kit_behaviour.specs.Places.{Place}
 use Rattle.kit_ops.specs.declared.attributes.IntegerAttr.{IntegerAttr}
-use Rattle.kit_optimiser.specs.declared.pass.KitPass.{KitPass}
-use Rattle.kit_optimiser.specs.declared.pass.KitPass.TheVariants.{Sccp}
+use Rattle.kit_ops.specs.declared.pass.KitPass.{KitPass}
+use Rattle.kit_ops.specs.declared.pass.KitPass.TheVariants.{Sccp}
 use Rattle.kit_ruled_views.specs.Ruled.{KitTree}
 use Rattle.kit_views.specs.Reading.{kit_contents}
 use Rattle.opt_trees.specs.Facts.{Facts, IsMostPrecise}

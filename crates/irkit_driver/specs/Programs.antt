@@ -15,7 +15,7 @@ use Rattle.kit_ruled_views.specs.Operations.{operations_below}
 use Rattle.kit_ruled_views.specs.Programs.{IsProgramOf}
 use Rattle.kit_ruled_views.specs.TreePasses.{IsTreeAfter}
 use Rattle.kit_optimiser.specs.Passed.{pass_of}
-use Rattle.kit_optimiser.specs.declared.pass.KitPass.{KitPass}
+use Rattle.kit_ops.specs.declared.pass.KitPass.{KitPass}
 use Rattle.kit_execution.specs.Numberings.{NumbersTextsApart}
 use Rattle.kit_ruled_views.specs.Functions.{KitContext}
 use Rattle.kit_ruled_views.specs.Ruled.{HasOwnNames, HaveTypesIn, KitTree}

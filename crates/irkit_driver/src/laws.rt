@@ -13,7 +13,7 @@ ghost use Rattle.kit_checks.specs.declared.rule.Rule.{Rule};
 ghost use Rattle.kit_ruled_views.specs.Operations.{operations_below};
 ghost use Rattle.kit_optimiser.specs.Functions.{function_content};
 ghost use Rattle.kit_optimiser.specs.Passed.{pass_of};
-ghost use Rattle.kit_optimiser.specs.declared.pass.KitPass.{KitPass};
+ghost use Rattle.kit_ops.specs.declared.pass.KitPass.{KitPass};
 ghost use Rattle.kit_ruled_views.specs.Functions.{KitContext};
 ghost use Rattle.kit_ruled_views.specs.Ruled.{KitTree};
 ghost use Rattle.irkit_driver.specs.Facts.{FactsExist, PassedFactsStay, TreeFactsStay};

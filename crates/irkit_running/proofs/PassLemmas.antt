@@ -9,7 +9,7 @@ use Rattle.ir_trees.proofs.OneTree.{one_tree}
 use Rattle.ir_trees.specs.Stands.{StandsFor}
 use Rattle.kit_behaviour.specs.PassLists.{Pass}
 use Rattle.kit_optimiser.specs.Passed.{FillsUp, IsOptimised, pass_of}
-use Rattle.kit_optimiser.specs.declared.pass.KitPass.{KitPass}
+use Rattle.kit_ops.specs.declared.pass.KitPass.{KitPass}
 use Rattle.kit_ruled_views.specs.Functions.{KitContext}
 use Rattle.kit_ruled_views.specs.Ruled.{KitTree}
 use Rattle.kit_writable_trees.specs.Writable.{IsWritableRoot}

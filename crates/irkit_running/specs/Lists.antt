@@ -9,7 +9,7 @@ use Rattle.ir_program.specs.declared.handles.Ptr.{Ptr}
 use Rattle.kit_language.specs.Language.{kit_language}
 use Rattle.kit_optimiser.specs.Programs.{PassedPrograms}
 use Rattle.kit_optimiser.specs.Passed.{IsOptimised, FillsUp, pass_of}
-use Rattle.kit_optimiser.specs.declared.pass.KitPass.{KitPass}
+use Rattle.kit_ops.specs.declared.pass.KitPass.{KitPass}
 use Rattle.kit_execution.specs.Numberings.{NumbersTextsApart}
 use Rattle.kit_ruled_views.specs.Functions.{KitContext}
 use Rattle.text_printing.specs.Again.{IsTextOfModule}

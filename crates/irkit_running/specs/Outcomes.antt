@@ -9,7 +9,7 @@ use Rattle.kit_interpreter.specs.declared.executing.ExecFault.{ExecFault}
 use Rattle.kit_interpreter.specs.declared.executing.ExecFault.TheVariants as exec
 use Rattle.kit_ruled_passes.specs.Held.{HoldsModule}
 use Rattle.kit_optimiser.specs.Passed.{FillsUp, pass_of}
-use Rattle.kit_optimiser.specs.declared.pass.KitPass.{KitPass}
+use Rattle.kit_ops.specs.declared.pass.KitPass.{KitPass}
 use Rattle.kit_ruled_views.specs.Functions.{KitContext}
 use Rattle.text_reading.specs.building.Kept.{SameSeen}
 use Rattle.text_dialect.specs.Seen.{seen}

@@ -3,7 +3,7 @@ use Rattle.std.proofs.Common.{◌≡◌, ◌≢◌, ℕ, zero, suc, ◌<◌, Lis
 use Rattle.std.proofs.lemmas.List.{map_more}
 use Rattle.std.specs.Borrow.{Bor}
 use Rattle.clap.specs.Words.{Text}
-use Rattle.kit_optimiser.specs.declared.pass.KitPass.{KitPass}
+use Rattle.kit_ops.specs.declared.pass.KitPass.{KitPass}
 use Rattle.irkit_words.specs.Requests.{pass_name, SaysNumber, SayNumbers}
 
 -- no passes have these names, of which one is unknown

@@ -2,8 +2,8 @@
 use Rattle.std.specs.Prelude.{◌≡◌, ◌<◌, ◌^◌, ℕ, List, [], ◌∷◌, map, Option, Some, None, Result, Ok, Err, codes, string_bytes, unwrap_or}
 use Rattle.std.specs.Str.Parse.{IsNumeral, digits_value, without_leading_plus}
 use Rattle.clap.specs.Words.{Row, Text, all_of, first_of}
-use Rattle.kit_optimiser.specs.declared.pass.KitPass.{KitPass}
-use Rattle.kit_optimiser.specs.declared.pass.KitPass.TheVariants.{Sccp, Dce, SimplifyCfg}
+use Rattle.kit_ops.specs.declared.pass.KitPass.{KitPass}
+use Rattle.kit_ops.specs.declared.pass.KitPass.TheVariants.{Sccp, Dce, SimplifyCfg}
 use Rattle.irkit_words.specs.declared.request.Execution.{Execution}
 use Rattle.irkit_words.specs.declared.request.Request.{Request}
 use Rattle.irkit_words.specs.declared.request.Request.TheVariants.{Check, Optimise, Run}

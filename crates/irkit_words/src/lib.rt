@@ -8,5 +8,5 @@ mod command;
 mod request;
 
 pub use command::parse;
-pub use kit_optimiser::KitPass;
+pub use kit_ops::KitPass;
 pub use request::{Execution, Request, RequestFault, pass_named, request_of};

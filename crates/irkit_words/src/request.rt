@@ -2,7 +2,7 @@
 ghost use Rattle.std.specs.Prelude.{◌≡◌, ◌≢◌, ◌↔◌, ℕ, List, Some, codes, IfOk, IsTrue, MatchOption, map, option_map};
 
 use clap::ArgMatches;
-use kit_optimiser::KitPass;
+use kit_ops::KitPass;
 use std::alloc::{AllocError, AllocFailed, Global};
 use thiserror::Error;
 

@@ -17,7 +17,7 @@ use Rattle.kit_ops.specs.declared.types.KitType.{KitType}
 use Rattle.kit_ruled_views.specs.Functions.{KitContext}
 use Rattle.kit_ruled_views.specs.Ruled.{KitTree}
 use Rattle.kit_writable_trees.specs.Writable.{IsWritableRoot}
-use Rattle.kit_optimiser.specs.declared.pass.KitPass.{KitPass}
+use Rattle.kit_ops.specs.declared.pass.KitPass.{KitPass}
 use Rattle.kit_optimiser.specs.Passed.{CountsTo, IsPassed, IsOptimised, IsSoundRoot, ExtendsPasses, RunsPasses, pass_of}
 
 module _ (leads : TypeHandle → Option KitType) (numbered : List ℕ → ℕ) (x : Pass) where

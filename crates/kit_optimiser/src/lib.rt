@@ -8,7 +8,6 @@
 
 mod lists;
 mod outside;
-mod pass;
 mod passes;
 mod soundness;
 
@@ -16,8 +15,8 @@ ghost use Rattle.ir_trees.specs.Renames.{named};
 ghost use Rattle.kit_optimiser.specs.Laws.{FunctionsKeepTypes, OptimisedListsCut};
 ghost use Rattle.kit_optimiser.specs.Laws.{OptimisedModulesHavePrograms};
 
+pub use kit_ops::KitPass;
 pub use lists::run_passes;
-pub use pass::KitPass;
 pub use passes::{propagate_constants, remove_dead, simplify_control_flow};
 pub use soundness::know_sound;
 

@@ -4,7 +4,7 @@ use Rattle.std.proofs.lemmas.Option.{slice_get-get_or}
 use Rattle.std.proofs.lemmas.Result.{err_from_is_err_and}
 use Rattle.ir_base.specs.declared.growth.GrowError.TheVariants.{CounterFull}
 use Rattle.kit_behaviour.specs.PassLists.{Pass}
-use Rattle.kit_optimiser.specs.declared.pass.KitPass.TheVariants.{Sccp}
+use Rattle.kit_ops.specs.declared.pass.KitPass.TheVariants.{Sccp}
 use Rattle.kit_optimiser.specs.Passed.{IsOptimised, RunsPasses, pass_of}
 use Rattle.kit_optimiser.proofs.LeftOutside.{kept_both, kept_none, none_come_both, none_come_none}
 use Rattle.kit_optimiser.proofs.LeftOutside.{stays_both, stays_none}
