@@ -3,16 +3,16 @@
 
 mod chains;
 mod control_flow;
-pub mod decisions;
-pub mod elimination;
-pub mod joining;
+mod decisions;
+mod elimination;
+mod joining;
 mod liveness;
 mod merging;
 mod places;
-pub mod propagation;
+mod propagation;
 mod rewriting;
 mod stand_ins;
-pub mod unreached;
+mod unreached;
 
 pub use control_flow::simplify_cfg;
 pub use elimination::dce;

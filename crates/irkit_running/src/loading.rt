@@ -18,8 +18,7 @@ use kit_verifier::verify_module;
 use kit_writable_trees::texts_are_writable;
 use std::alloc::Global;
 use std::io::Read;
-use text_reading::building::discard;
-use text_reading::top_level_parse;
+use text_reading::{discard, top_level_parse};
 use text_rereading::laws::trees_of_texts_are_closed;
 
 /// At most so many calls read an input, so one that gives fewer bytes is read to its end.

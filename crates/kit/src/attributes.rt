@@ -56,7 +56,7 @@ fn make_integer(
 ///
 /// # Errors
 /// `Refused` with the number of the part, and `Memory`.
-pub fn make_attribute(
+pub(crate) fn make_attribute(
     alloc: Global,
     ctx: &mut Context<Kit>,
     kind: KitAttrKind,
@@ -76,7 +76,7 @@ pub fn make_attribute(
 }
 
 /// The parts of an attribute.
-pub fn attribute_parts(alloc: Global, attr: &KitAttr) -> Result<Vec<Part<Kit>>, AllocError>
+pub(crate) fn attribute_parts(alloc: Global, attr: &KitAttr) -> Result<Vec<Part<Kit>>, AllocError>
     ensures { (types : List KitType) → (n : ℕ) → (ps : Pieces)
         → ShowsAttribute says types attr.now (node (attribute_of_kind n) ps)
         → IfOk result (λ parts. ShowsParts says types parts.items ps) }

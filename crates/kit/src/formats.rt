@@ -54,7 +54,7 @@ const INTEGER: &[Directive] = &[
 ];
 
 /// The kind of operations with this number, of those that can be read.
-pub fn operation_kind_at(number: usize) -> Option<KitOp>
+pub(crate) fn operation_kind_at(number: usize) -> Option<KitOp>
     ensures { result ≡ slice_get read_ops number }
 {
     match number {
@@ -68,7 +68,7 @@ pub fn operation_kind_at(number: usize) -> Option<KitOp>
 }
 
 /// The kind of types with this number, of those that can be read.
-pub fn type_kind_at(number: usize) -> Option<KitTypeKind>
+pub(crate) fn type_kind_at(number: usize) -> Option<KitTypeKind>
     ensures { result ≡ slice_get read_types number }
 {
     match number {
@@ -80,7 +80,7 @@ pub fn type_kind_at(number: usize) -> Option<KitTypeKind>
 }
 
 /// The kind of attributes with this number, of those that can be read.
-pub fn attribute_kind_at(number: usize) -> Option<KitAttrKind>
+pub(crate) fn attribute_kind_at(number: usize) -> Option<KitAttrKind>
     ensures { result ≡ slice_get read_attrs number }
 {
     match number {
@@ -90,7 +90,7 @@ pub fn attribute_kind_at(number: usize) -> Option<KitAttrKind>
 }
 
 /// The dotted name of a kind of operations.
-pub fn operation_name(kind: KitOp) -> &'static str
+pub(crate) fn operation_name(kind: KitOp) -> &'static str
     ensures { result.now ≡ (op_kind kind).id }
 {
     match kind {
@@ -109,7 +109,7 @@ pub fn operation_name(kind: KitOp) -> &'static str
 }
 
 /// The dotted name of a kind of types.
-pub fn type_name(kind: KitTypeKind) -> &'static str
+pub(crate) fn type_name(kind: KitTypeKind) -> &'static str
     ensures { result.now ≡ (type_form kind).id }
 {
     match kind {
@@ -120,7 +120,7 @@ pub fn type_name(kind: KitTypeKind) -> &'static str
 }
 
 /// The dotted name of a kind of attributes.
-pub fn attribute_name(kind: KitAttrKind) -> &'static str
+pub(crate) fn attribute_name(kind: KitAttrKind) -> &'static str
     ensures { result.now ≡ (attr_form kind).id }
 {
     match kind {
@@ -135,7 +135,7 @@ pub fn attribute_name(kind: KitAttrKind) -> &'static str
 }
 
 /// What follows the name of an operation; nothing where the kind can't be read.
-pub fn operation_format(kind: KitOp) -> &'static [Directive]
+pub(crate) fn operation_format(kind: KitOp) -> &'static [Directive]
     ensures { steps_of result.now ≡ (op_kind kind).format }
 {
     match kind {
@@ -151,7 +151,7 @@ pub fn operation_format(kind: KitOp) -> &'static [Directive]
 }
 
 /// What follows the name of a type.
-pub fn type_format(kind: KitTypeKind) -> &'static [Directive]
+pub(crate) fn type_format(kind: KitTypeKind) -> &'static [Directive]
     ensures { steps_of result.now ≡ (type_form kind).format }
 {
     match kind {
@@ -162,7 +162,7 @@ pub fn type_format(kind: KitTypeKind) -> &'static [Directive]
 }
 
 /// What follows the name of an attribute; nothing where the kind can't be read.
-pub fn attribute_format(kind: KitAttrKind) -> &'static [Directive]
+pub(crate) fn attribute_format(kind: KitAttrKind) -> &'static [Directive]
     ensures { steps_of result.now ≡ (attr_form kind).format }
 {
     match kind {

@@ -18,14 +18,14 @@ fn greatest(width: u32) -> u64
 }
 
 /// Whether numbers of this type have 1 to 64 bits.
-pub fn has_values(integer: IntegerType) -> bool
+pub(crate) fn has_values(integer: IntegerType) -> bool
     ensures { IsTrue result ↔ HasValues integer }
 {
     1 <= integer.width && integer.width <= 64
 }
 
 /// The bits of a number of this type, where it is one: from -(2^(width - 1)) to 2^width - 1.
-pub fn bits_of(integer: IntegerType, number: Number) -> Option<u64>
+pub(crate) fn bits_of(integer: IntegerType, number: Number) -> Option<u64>
     ensures { MatchOption result (IsNumberOfType integer number → ⊥) (λ bits. IsNumberOfType integer number
         × (bits ≡ number_modulo integer.width number)) }
 {
@@ -71,7 +71,7 @@ fn negative_bits(width: u32, magnitude: u64) -> Option<u64>
 }
 
 /// The number of an attribute as it is printed. Reading it gives the bits again.
-pub fn number_of(attr: IntegerAttr) -> Number
+pub(crate) fn number_of(attr: IntegerAttr) -> Number
     ensures printed { HasFittingBits attr → result ≡ printed_number attr }
     ensures number { HasFittingBits attr → IsNumberOfType attr.integer result }
     ensures bits { HasFittingBits attr → number_modulo attr.integer.width result ≡ attr.bits }

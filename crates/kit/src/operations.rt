@@ -197,7 +197,7 @@ fn make_of_pair(alloc: Global, parts: &[Part<Kit>]) -> Result<OperationDraft<Kit
 ///
 /// # Errors
 /// `Refused` with the number of the part, and `Memory`.
-pub fn make_operation(
+pub(crate) fn make_operation(
     alloc: Global,
     ctx: &mut Context<Kit>,
     kind: KitOp,
@@ -298,7 +298,7 @@ fn pair_parts(
 
 /// The parts of an operation. Operands and regions are given by how many there are of them. An operation that can't be
 /// read has none.
-pub fn operation_parts(
+pub(crate) fn operation_parts(
     alloc: Global,
     ctx: &Context<Kit>,
     op: Ptr<Operation>,

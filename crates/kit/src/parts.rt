@@ -10,7 +10,7 @@ use kit_ops::{IntegerAttr, IntegerType, KitAttr};
 use std::alloc::{AllocError, Global};
 
 /// The type that parts are, if they are one.
-pub fn type_in(parts: &[Part<Kit>]) -> Option<TypeHandle>
+pub(crate) fn type_in(parts: &[Part<Kit>]) -> Option<TypeHandle>
     ensures { result ≡ one_type parts.now }
 {
     match parts {
@@ -20,7 +20,7 @@ pub fn type_in(parts: &[Part<Kit>]) -> Option<TypeHandle>
 }
 
 /// The types in a list of types, if each member is one.
-pub fn types_of(
+pub(crate) fn types_of(
     alloc: Global,
     members: &[Vec<Part<Kit>>],
 ) -> Result<Option<Vec<TypeHandle>>, AllocError>
@@ -37,7 +37,7 @@ pub fn types_of(
 }
 
 /// A list of types, as a part.
-pub fn list_of(alloc: Global, types: &[TypeHandle]) -> Result<Part<Kit>, AllocError>
+pub(crate) fn list_of(alloc: Global, types: &[TypeHandle]) -> Result<Part<Kit>, AllocError>
     ensures { IfOk result (λ part. IsTypeList types.now part) }
 {
     let mut members = Vec::with_capacity(alloc, types.len())?;
@@ -48,7 +48,7 @@ pub fn list_of(alloc: Global, types: &[TypeHandle]) -> Result<Part<Kit>, AllocEr
 }
 
 /// The number that a part is.
-pub fn number_in(part: &Part<Kit>) -> Option<Number>
+pub(crate) fn number_in(part: &Part<Kit>) -> Option<Number>
     ensures { result ≡ number_part part.now }
 {
     match part {
@@ -58,7 +58,7 @@ pub fn number_in(part: &Part<Kit>) -> Option<Number>
 }
 
 /// The integer type that a part is.
-pub fn integer_in(part: &Part<Kit>) -> Option<IntegerType>
+pub(crate) fn integer_in(part: &Part<Kit>) -> Option<IntegerType>
     ensures { result ≡ integer_part part.now }
 {
     match part {
@@ -71,7 +71,7 @@ pub fn integer_in(part: &Part<Kit>) -> Option<IntegerType>
 }
 
 /// The integer type that parts are, if they are one.
-pub fn integer_type_in(parts: &[Part<Kit>]) -> Option<IntegerType>
+pub(crate) fn integer_type_in(parts: &[Part<Kit>]) -> Option<IntegerType>
     ensures { result ≡ one_integer_type parts.now }
 {
     match parts {
@@ -81,7 +81,7 @@ pub fn integer_type_in(parts: &[Part<Kit>]) -> Option<IntegerType>
 }
 
 /// The list that a part is.
-pub fn list_in(part: &Part<Kit>) -> Option<&Vec<Vec<Part<Kit>>>>
+pub(crate) fn list_in(part: &Part<Kit>) -> Option<&Vec<Vec<Part<Kit>>>>
     ensures { option_copied result ≡ list_part part.now }
 {
     match part {
@@ -91,7 +91,7 @@ pub fn list_in(part: &Part<Kit>) -> Option<&Vec<Vec<Part<Kit>>>>
 }
 
 /// The name of parts that are a name and a region.
-pub fn module_in(parts: &[Part<Kit>]) -> Option<&Identifier>
+pub(crate) fn module_in(parts: &[Part<Kit>]) -> Option<&Identifier>
     ensures { option_copied result ≡ module_name parts.now }
 {
     match parts {
@@ -101,7 +101,7 @@ pub fn module_in(parts: &[Part<Kit>]) -> Option<&Identifier>
 }
 
 /// The name and the type of parts that are a name, a type and a region.
-pub fn function_in(parts: &[Part<Kit>]) -> Option<(&Identifier, TypeHandle)>
+pub(crate) fn function_in(parts: &[Part<Kit>]) -> Option<(&Identifier, TypeHandle)>
     ensures { option_map (λ e. (e.0.now, e.1)) result ≡ function_header parts.now }
 {
     match parts {
@@ -111,7 +111,7 @@ pub fn function_in(parts: &[Part<Kit>]) -> Option<(&Identifier, TypeHandle)>
 }
 
 /// The integer that parts are, if they are one.
-pub fn constant_in(parts: &[Part<Kit>]) -> Option<IntegerAttr>
+pub(crate) fn constant_in(parts: &[Part<Kit>]) -> Option<IntegerAttr>
     ensures { result ≡ one_integer parts.now }
 {
     match parts {
@@ -121,7 +121,7 @@ pub fn constant_in(parts: &[Part<Kit>]) -> Option<IntegerAttr>
 }
 
 /// The number of operands that parts are, if they are operands.
-pub fn operands_in(parts: &[Part<Kit>]) -> Option<usize>
+pub(crate) fn operands_in(parts: &[Part<Kit>]) -> Option<usize>
     ensures { result ≡ one_operands parts.now }
 {
     match parts {
@@ -141,7 +141,7 @@ fn is_operand(part: &Part<Kit>) -> bool
 }
 
 /// The type of parts that are two operands and a type.
-pub fn pair_in(parts: &[Part<Kit>]) -> Option<TypeHandle>
+pub(crate) fn pair_in(parts: &[Part<Kit>]) -> Option<TypeHandle>
     ensures { result ≡ pair_type parts.now }
 {
     match parts {

@@ -2,7 +2,7 @@
 ghost use Rattle.std.specs.Prelude.{refl};
 
 use crate::dialect::Kit;
-use text_dialect::formats::{PartTable, ReadDialect};
+use text_dialect::{PartTable, ReadDialect};
 
 const TABLE: &[PartTable] = &[
     PartTable {

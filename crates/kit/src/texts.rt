@@ -19,8 +19,10 @@ use crate::attributes::{attribute_parts, make_attribute};
 use crate::dialect::Kit;
 use crate::formats::{
     attribute_format, attribute_kind_at, attribute_name, operation_format, operation_kind_at,
-    operation_name, type_name,
+    operation_name, type_format, type_kind_at, type_name,
 };
+use crate::operations::{make_operation, operation_parts};
+use crate::types::{make_type, type_parts};
 use ir_context::Context;
 use ir_print::{Directive, Part};
 use ir_program::{Operation, Ptr};
@@ -61,7 +63,7 @@ impl TextDialect for Kit {
     fn type_kind_at(number: usize) -> Option<KitTypeKind>
         ensures { result ≡ slice_get read_types number }
     {
-        crate::formats::type_kind_at(number)
+        type_kind_at(number)
     }
 
     fn attr_kind_at(number: usize) -> Option<KitAttrKind>
@@ -87,7 +89,7 @@ impl TextDialect for Kit {
     }
 
     fn type_format(kind: KitTypeKind) -> &'static [Directive] {
-        crate::formats::type_format(kind)
+        type_format(kind)
     }
 
     fn attr_format(kind: KitAttrKind) -> &'static [Directive] {
@@ -99,7 +101,7 @@ impl TextDialect for Kit {
         kind: KitTypeKind,
         parts: &[Part<Kit>],
     ) -> Result<KitType, MakeFault> {
-        crate::types::make_type(alloc, kind, parts)
+        make_type(alloc, kind, parts)
     }
 
     fn make_attr(
@@ -117,11 +119,11 @@ impl TextDialect for Kit {
         kind: KitOp,
         parts: &[Part<Kit>],
     ) -> Result<OperationDraft<Kit>, MakeFault> {
-        crate::operations::make_operation(alloc, ctx, kind, parts)
+        make_operation(alloc, ctx, kind, parts)
     }
 
     fn type_parts(alloc: Global, key: &KitType) -> Result<Vec<Part<Kit>>, AllocError> {
-        crate::types::type_parts(alloc, key)
+        type_parts(alloc, key)
     }
 
     fn attr_parts(alloc: Global, attr: &KitAttr) -> Result<Vec<Part<Kit>>, AllocError> {
@@ -133,7 +135,7 @@ impl TextDialect for Kit {
         ctx: &Context<Kit>,
         op: Ptr<Operation>,
     ) -> Result<Vec<Part<Kit>>, AllocError> {
-        crate::operations::operation_parts(alloc, ctx, op)
+        operation_parts(alloc, ctx, op)
     }
 
     ghost op_ids_printed = { λ kind. refl };

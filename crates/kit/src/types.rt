@@ -66,7 +66,7 @@ fn make_unit_type(parts: &[Part<Kit>]) -> Result<KitType, MakeFault>
 ///
 /// # Errors
 /// `Refused` with the number of the part, and `Memory`.
-pub fn make_type(
+pub(crate) fn make_type(
     alloc: Global,
     kind: KitTypeKind,
     parts: &[Part<Kit>],
@@ -82,7 +82,7 @@ pub fn make_type(
 }
 
 /// The parts of a type, as reading its text gives them.
-pub fn type_parts(alloc: Global, key: &KitType) -> Result<Vec<Part<Kit>>, AllocError>
+pub(crate) fn type_parts(alloc: Global, key: &KitType) -> Result<Vec<Part<Kit>>, AllocError>
     ensures { (types : List KitType) → (n : ℕ) → (ps : Pieces) → ShowsKey says types key.now n ps
         → IfOk result (λ parts. ShowsParts says types parts.items ps) }
 {

@@ -3,7 +3,7 @@
 use ir_grammar::grammar::Facts;
 use kit::Kit;
 use std::alloc::{AllocError, Global};
-use text_dialect::formats::{PartTable, ReadDialect, table_of};
+use text_dialect::{PartTable, ReadDialect, table_of};
 
 /// What the table says of a part, as Rust source.
 fn source_of(alloc: Global, facts: &Facts) -> Result<String, AllocError> {

@@ -5,6 +5,7 @@
 #![tactic(auto)]
 
 mod dialect;
-pub mod formats;
+mod formats;
 
 pub use dialect::{MakeFault, OperationDraft, TextDialect};
+pub use formats::{DialectGrammar, PartTable, ReadDialect, grammar_of, resolve, table_of};

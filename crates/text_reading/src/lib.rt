@@ -5,9 +5,10 @@
 #![tactic(auto)]
 
 mod assembling;
-pub mod building;
+mod building;
 mod finding;
 mod frames;
 mod reading;
 
+pub use building::discard;
 pub use reading::top_level_parse;

@@ -31,8 +31,7 @@ use ir_scopes::depth::DEEPEST;
 use ir_scopes::scopes::{Resolution, ScopeFault};
 use ir_tokens::faults::TextFault;
 use std::alloc::{AllocError, Global};
-use text_dialect::TextDialect;
-use text_dialect::formats::{ReadDialect, grammar_of, resolve};
+use text_dialect::{ReadDialect, TextDialect, grammar_of, resolve};
 
 /// Reads one operation with all that stands in it, into a context.
 ///

@@ -101,7 +101,7 @@ impl<'a> Player<'a> {
         Ok(None)
     }
 
-    /// Plays a line. Answers it where it was answered otherwise than it says.
+    /// Plays a line. Where it is answered otherwise than the line says, the line and that answer are what surprises.
     fn line(
         &mut self,
         ctx: &mut Context<Tiny>,

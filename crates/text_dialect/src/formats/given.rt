@@ -5,8 +5,8 @@ ghost use Rattle.ir_formats.specs.Ordered.{PartPositions, is_ordered};
 ghost use Rattle.ir_formats.specs.Predicting.{fits};
 ghost use Rattle.ir_formats.specs.Rules.{rules_of};
 
-use ir_formats::PartTable;
 use crate::TextDialect;
+use ir_formats::PartTable;
 
 /// A dialect whose texts can be read: the next token decides each step.
 pub trait ReadDialect: TextDialect {

@@ -5,13 +5,13 @@ ghost use Rattle.ir_formats.specs.Ordered.{OrdersTexts};
 ghost use Rattle.ir_formats.specs.Rules.{texts, words_of, classes_of, kinds_of, rules_of, plain_rules, plain_classes};
 ghost use Rattle.ir_grammar.specs.Table.{CanRead};
 
+use crate::TextDialect;
 use crate::formats::given::ReadDialect;
 use ir_formats::rules::{
     DialectGrammar, KindText, KindTexts, Sort, grammar_of_kinds, table_of_kinds,
 };
 use ir_grammar::grammar::Facts;
 use std::alloc::{AllocError, Global};
-use crate::TextDialect;
 
 /// A dialect has at most so many kinds of operations, types or attributes that can be read.
 const KINDS: usize = 256;

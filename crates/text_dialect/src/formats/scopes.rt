@@ -4,11 +4,11 @@ ghost use Rattle.ir_grammar.specs.Nesting.{OwnTokens};
 ghost use Rattle.ir_scopes.specs.Scopes.{isolated_at, is_marked, IsResolved, IsScopeFault};
 ghost use Rattle.text_dialect.specs.formats.Isolated.{is_isolated};
 
+use crate::TextDialect;
 use ir_grammar::grammar::Event;
 use ir_names::OpInterface;
 use ir_scopes::scopes::{Resolution, ScopeFault, look_up};
 use std::alloc::{AllocError, Global};
-use crate::TextDialect;
 
 /// A dialect has at most so many kinds of operations that can be read.
 const KINDS: usize = 256;

@@ -5,7 +5,7 @@ use Rattle.std.proofs.Common.{sym, ap, ◌∙◌}
 use Rattle.ir_names.specs.Dictionary.{with_attribute}
 use Rattle.kit_ops.specs.declared.attributes.KitAttr.TheVariants as attrs
 use Rattle.kit.specs.Forms.{TypedRegion}
-use Rattle.kit_ops.specs.Keys.{symbol_name, function_type}
+use Rattle.kit_ops.specs.Keys.{function_type}
 use Rattle.kit.proofs.Drafted.{drafted, function_made, function_refused}
 use Rattle.kit.proofs.operations.make_function.Goals as goal
 

@@ -1,5 +1,5 @@
 use Rattle.ir_program.specs.Program.{argument_count, block_at}
-use Rattle.std.proofs.Common.{sym, subst, IsSome, ◌≡◌, ◌∙◌, ap}
+use Rattle.std.proofs.Common.{sym, subst, IsSome, ◌∙◌, ap}
 use Rattle.kit_checks.proofs.types.argument_count.Goals as goal
 
 pub argument_count-requires : goal.argument_count-requires

@@ -1,6 +1,5 @@
-use Rattle.std.proofs.Common.{◌≡◌, ◌<◌, Some, arith, get_or, length, refl, slice_get, subst, sym, true≢false}
+use Rattle.std.proofs.Common.{◌≡◌, Some, arith, get_or, length, refl, slice_get, subst, sym, true≢false}
 use Rattle.std.proofs.lemmas.Option.{slice_get-get_or}
-use Rattle.ir_program.specs.Lists.{StandsInside}
 use Rattle.ir_program.specs.Preorder.{nodes_inside, AreInside}
 use Rattle.ir_program.specs.Program.{no_handle}
 use Rattle.ir_program.specs.declared.handles.IRNode.TheVariants.{Operation as OperationNode}
