@@ -8,9 +8,9 @@ ghost use Rattle.opt_inside.specs.Numbered.{NumbersInside, numbers_of};
 
 use crate::facts::folding::ProgramFolding;
 use crate::facts::problem::problem_of;
+use crate::{Inside, know_occurrences};
 use ir_program::{Operation, Program, Ptr};
 use opt_dialect::OptDialect;
-use crate::{Inside, know_occurrences};
 use opt_rows::Known;
 use opt_solvers::{Solution, most_precise};
 use std::alloc::{AllocError, Global};

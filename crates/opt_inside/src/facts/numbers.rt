@@ -6,8 +6,8 @@ ghost use Rattle.ir_program.specs.Rows.{operands_at};
 ghost use Rattle.opt_inside.specs.Numbered.{numbers_of};
 ghost use Rattle.opt_inside.specs.facts.Problem.{value_number, block_number, values_of, entries_in};
 
-use ir_program::{BasicBlock, Operation, Program, Ptr, Value};
 use crate::Inside;
+use ir_program::{BasicBlock, Operation, Program, Ptr, Value};
 use std::alloc::{AllocError, Global};
 
 /// The number of a value: for each that comes from outside the one behind those of the values inside.

@@ -6,11 +6,11 @@ ghost use Rattle.ir_trees.specs.Searched.{Lists};
 ghost use Rattle.opt_inside.specs.Numbered.{NumbersInside, numbers_of};
 ghost use Rattle.opt_inside.specs.facts.Problem.{AreArguments, AreRowsOfOperations, IsFactsProblemOf, PairsByIndex};
 
+use crate::Inside;
 use crate::facts::numbers::{argument_numbers, entry_numbers};
 use crate::facts::rows::row_of;
 use ir_program::{Operation, Program, Ptr};
 use opt_dialect::OptDialect;
-use crate::Inside;
 use opt_rows::{FactsProblem, OperationRows, RowBuffer};
 use std::alloc::{AllocError, Global};
 

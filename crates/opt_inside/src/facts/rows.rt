@@ -6,10 +6,10 @@ ghost use Rattle.opt_inside.specs.Numbered.{numbers_of};
 ghost use Rattle.opt_rows.specs.OperationColumns.{buffered};
 ghost use Rattle.opt_inside.specs.facts.Problem.{role_of, AreForwarded, IsEdgeCount, AreEdges, IsRowOfOperation};
 
+use crate::Inside;
 use crate::facts::numbers::{entry_numbers, number_of_block, operand_numbers, result_numbers};
 use ir_program::{Operation, Program, Ptr};
 use opt_dialect::OptDialect;
-use crate::Inside;
 use opt_rows::{EdgeList, Role, RowBuffer};
 use std::alloc::{AllocError, Global};
 

@@ -16,9 +16,9 @@ ghost use Rattle.opt_inside.specs.reach.Starts.{IsStartIn};
 
 use crate::reach::paths::{is_first, number_of_block, push_if, reached_blocks};
 use crate::reach::starts::{Start, begins_at};
+use crate::{Inside, know_occurrences};
 use ir_program::{BasicBlock, Operation, Program, Ptr, Region};
 use opt_dialect::Meanings;
-use crate::{Inside, know_occurrences};
 use std::alloc::{AllocError, Global};
 
 /// What becomes of a block.

@@ -14,11 +14,11 @@ ghost use Rattle.opt_inside.specs.reach.Edges.{HasLocalEdgesFrom, IsBlockUnder};
 ghost use Rattle.opt_inside.specs.declared.reach.starts.Start.{Start};
 ghost use Rattle.opt_inside.specs.reach.Paths.{IsEntry, IsPathGraph, exits_of, items_if, number_in};
 
+use crate::{Inside, know_occurrences};
 use digraph::reached;
 use indexmap::IndexSet;
 use ir_program::{BasicBlock, Operation, Program, Ptr, Region};
 use opt_dialect::Meanings;
-use crate::{Inside, know_occurrences};
 use std::alloc::{AllocError, Global};
 
 /// Puts an item behind others, if it is wanted.
