@@ -1,2 +1,2 @@
-pub mod edits
-pub mod verification
+pub mod EditsLemmas
+pub mod VerificationLemmas

@@ -3,12 +3,12 @@ mod Involutions
 mod SimplifiedNames
 mod SimplifiedTrees
 mod WholeTrees
-pub mod joining
-pub mod stand_ins
-pub mod propagation
-pub mod rewriting
-pub mod unreached
-pub mod chains
-pub mod decisions
-pub mod elimination
-pub mod liveness
+pub mod JoiningLemmas
+pub mod StandInsLemmas
+pub mod PropagationLemmas
+pub mod RewritingLemmas
+pub mod UnreachedLemmas
+pub mod ChainsLemmas
+pub mod DecisionsLemmas
+pub mod EliminationLemmas
+pub mod LivenessLemmas

@@ -15,9 +15,9 @@ use Rattle.opt_inside.proofs.Added.{HasValues, definer_of}
 use Rattle.opt_inside.proofs.Among.{results_are, arguments_are}
 use Rattle.opt_trees.specs.Occurrences.{Has}
 use Rattle.text_reading.specs.building.Inside.{IsInsideSome}
-use Rattle.text_reading.proofs.building.Discarded.{used_since}
-use Rattle.text_reading.proofs.building.Insides.{one_some, some_one}
-use Rattle.text_reading.proofs.building.Stood.{HasLists, seen_stands, stands_seen}
+use Rattle.text_reading.proofs.BuildingLemmas.Discarded.{used_since}
+use Rattle.text_reading.proofs.BuildingLemmas.Insides.{one_some, some_one}
+use Rattle.text_reading.proofs.BuildingLemmas.Stood.{HasLists, seen_stands, stands_seen}
 use Rattle.text_dialect.specs.Seen.{seen, seen_operation}
 use Rattle.text_reading.specs.frames.Raised.{HoldsAllNew}
 use Rattle.kit.specs.Meaning.{KitOperation}

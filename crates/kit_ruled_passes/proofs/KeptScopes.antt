@@ -14,7 +14,7 @@ use Rattle.ir_trees.specs.Searched.{Lists}
 use Rattle.ir_trees.specs.Stands.{by_handle, StandsFor}
 use Rattle.ir_trees.proofs.OneTree.{one_tree}
 use Rattle.ir_opts.specs.decisions.Phase.{DecidesBranches}
-use Rattle.ir_opts.proofs.decisions.SaidAround.{HasValues as Said, around_root, says_known}
+use Rattle.ir_opts.proofs.DecisionsLemmas.SaidAround.{HasValues as Said, around_root, says_known}
 use Rattle.opt_inside.specs.Around.{CanTellTaken, IsTakenOutside}
 use Rattle.opt_inside.specs.declared.reach.starts.Start.TheVariants as start
 use Rattle.ir_opts.specs.unreached.Phases.{RemovesBlocks}

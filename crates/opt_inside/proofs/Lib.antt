@@ -12,6 +12,6 @@ pub mod Among
 pub mod Ordered
 pub mod Counting
 pub mod Told
-pub mod facts
-pub mod forwarding
-pub mod reach
+pub mod FactsLemmas
+pub mod ForwardingLemmas
+pub mod ReachLemmas

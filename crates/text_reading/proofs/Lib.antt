@@ -3,6 +3,6 @@ pub mod Places
 pub mod Renamed
 pub mod TextFaults
 pub mod Understood
-pub mod assembling
-pub mod frames
-pub mod building
+pub mod AssemblingLemmas
+pub mod FramesLemmas
+pub mod BuildingLemmas

@@ -34,7 +34,7 @@ use Rattle.ir_rereading.proofs.trees.DefinedTokens.{defined_tokens, many_defined
 use Rattle.ir_rereading.proofs.trees.TreeRenamed.{definitions_renamed}
 use Rattle.ir_rereading.proofs.trees.TreeScopes.{definition_tokens}
 use Rattle.ir_rereading.proofs.verdicts.TokensTaken.{reading_taken}
-use Rattle.text_reading.proofs.frames.Reached.{assembled_values, assembled_distinct, assembled_defined, can_link, root_tree}
+use Rattle.text_reading.proofs.FramesLemmas.Reached.{assembled_values, assembled_distinct, assembled_defined, can_link, root_tree}
 use Rattle.text_rereading.specs.Rereading.{Named}
 use Rattle.text_reading.proofs.Renamed.{renamed_tree}
 

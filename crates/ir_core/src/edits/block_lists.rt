@@ -97,7 +97,7 @@ pub fn unlink_block<O, B, T: TypeTable>(
 }
 
 /// Moves the blocks of one region behind those of another.
-#[tactic(auto, using(crate::proofs::edits::Asked::region_elsewhere))]
+#[tactic(auto, using(crate::proofs::EditsLemmas::Asked::region_elsewhere))]
 pub fn append_blocks<O, B, T: TypeTable>(
     ctx: &mut TypedProgram<O, B, T>,
     donee: Ptr<Region>,

@@ -53,7 +53,7 @@ pub fn new_operation<D: DialectTables>(
 }
 
 /// Makes a block that comes from no source and has no attributes.
-#[tactic(auto, using(crate::proofs::edits::Makings::known_where))]
+#[tactic(auto, using(crate::proofs::EditsLemmas::Makings::known_where))]
 pub fn new_block<D: DialectTables>(
     ctx: &mut Context<D>,
     label: &Option<Identifier>,

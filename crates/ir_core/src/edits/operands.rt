@@ -21,7 +21,7 @@ pub fn push_operand<O, B, T: TypeTable>(
 }
 
 /// Takes away the last operand of an operation, if there is one.
-#[tactic(auto, using(crate::proofs::edits::Asked::operand_popped))]
+#[tactic(auto, using(crate::proofs::EditsLemmas::Asked::operand_popped))]
 pub fn pop_operand<O, B, T: TypeTable>(
     ctx: &mut TypedProgram<O, B, T>,
     op: Ptr<Operation>,

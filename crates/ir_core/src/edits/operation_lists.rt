@@ -98,7 +98,7 @@ pub fn unlink_operation<O, B, T: TypeTable>(
 }
 
 /// Moves the operations of one block behind those of another.
-#[tactic(auto, using(crate::proofs::edits::Asked::block_elsewhere))]
+#[tactic(auto, using(crate::proofs::EditsLemmas::Asked::block_elsewhere))]
 pub fn append_operations<O, B, T: TypeTable>(
     ctx: &mut TypedProgram<O, B, T>,
     donee: Ptr<BasicBlock>,

@@ -21,7 +21,7 @@ pub fn push_successor<O, B, T: TypeTable>(
 }
 
 /// Takes away the last successor of an operation, if there is one.
-#[tactic(auto, using(crate::proofs::edits::Asked::successor_popped))]
+#[tactic(auto, using(crate::proofs::EditsLemmas::Asked::successor_popped))]
 pub fn pop_successor<O, B, T: TypeTable>(
     ctx: &mut TypedProgram<O, B, T>,
     op: Ptr<Operation>,

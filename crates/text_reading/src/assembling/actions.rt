@@ -17,7 +17,7 @@ use text_dialect::TextDialect;
 
 impl<D: TextDialect> Assembler<D> {
     /// Does what an action asks for.
-    #[tactic(auto, using(crate::proofs::assembling::Undone::erased_same, crate::proofs::assembling::Undone::payloads_same, crate::proofs::assembling::Undone::undoes_same))]
+    #[tactic(auto, using(crate::proofs::AssemblingLemmas::Undone::erased_same, crate::proofs::AssemblingLemmas::Undone::payloads_same, crate::proofs::AssemblingLemmas::Undone::undoes_same))]
     #[inline(always)]
     pub fn step(
         &mut self,

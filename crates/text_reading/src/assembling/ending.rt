@@ -26,7 +26,7 @@ use text_dialect::TextDialect;
 
 impl<D: TextDialect> Assembler<D> {
     /// What was begun ends at the last token, in what is around it.
-    #[tactic(auto, using(crate::proofs::assembling::Undone::types_same, crate::proofs::assembling::Undone::erased_same, crate::proofs::assembling::Undone::payloads_same, crate::proofs::assembling::Undone::undone_same))]
+    #[tactic(auto, using(crate::proofs::AssemblingLemmas::Undone::types_same, crate::proofs::AssemblingLemmas::Undone::erased_same, crate::proofs::AssemblingLemmas::Undone::payloads_same, crate::proofs::AssemblingLemmas::Undone::undone_same))]
     fn end_in(
         &mut self,
         ctx: &mut Context<D>,

@@ -3,8 +3,8 @@ use Rattle.ir_characters.specs.Texts.{codes_of}
 use Rattle.ir_tokens.specs.declared.faults.TextFault.TheVariants.{CounterFull}
 use Rattle.std.proofs.lemmas.Result.{IfOk-at_ok, MatchResult-at_ok}
 use Rattle.text_dialect.specs.Seen.{seen}
-use Rattle.text_reading.proofs.building.Numbers.{erased_both}
-use Rattle.text_reading.proofs.building.Shown.{payloads_since}
+use Rattle.text_reading.proofs.BuildingLemmas.Numbers.{erased_both}
+use Rattle.text_reading.proofs.BuildingLemmas.Shown.{payloads_since}
 use Rattle.ir_grammar.specs.Nesting.{at_root, at_end, Nests, OwnTokens}
 use Rattle.ir_forest.specs.Progress.{Leads}
 use Rattle.ir_forest.specs.Identifiers.{AreSpelt}

@@ -4,8 +4,8 @@ use Rattle.ir_core.specs.edits.UseEdits.{ReplacesSomeUses, RetargetsSome}
 use Rattle.ir_core.specs.edits.Naming.{block_named, value_named}
 use Rattle.ir_core.specs.edits.Resolving.{resolved}
 use Rattle.ir_core.specs.edits.Steps.{step, IfNamed}
-use Rattle.ir_core.proofs.edits.Makings.{same_still}
-use Rattle.ir_core.proofs.edits.Named.{named_some, named_none, of_names}
+use Rattle.ir_core.proofs.EditsLemmas.Makings.{same_still}
+use Rattle.ir_core.proofs.EditsLemmas.Named.{named_some, named_none, of_names}
 use Rattle.ir_core.proofs.edits.apply.apply.Goals as goal
 
 pub returns-in-NewOperation : goal.returns-in-NewOperation

@@ -1,5 +1,5 @@
 use Rattle.std.proofs.Common.{Err, ap, sym, ◌∙◌, arith}
-use Rattle.ir_core.proofs.edits.Refused.{refused_result}
+use Rattle.ir_core.proofs.EditsLemmas.Refused.{refused_result}
 use Rattle.ir_core.proofs.edits.arguments.insert_argument.Goals as goal
 
 pub returns-in_err-value : goal.returns-in_err-value

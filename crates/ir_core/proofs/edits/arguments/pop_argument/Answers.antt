@@ -1,5 +1,5 @@
 use Rattle.std.proofs.Common.{refl, sym, ◌∙◌, true≢false}
-use Rattle.ir_core.proofs.edits.Refused.{popped_match}
+use Rattle.ir_core.proofs.EditsLemmas.Refused.{popped_match}
 use Rattle.ir_core.proofs.edits.arguments.pop_argument.Goals as goal
 
 pub returns : goal.returns

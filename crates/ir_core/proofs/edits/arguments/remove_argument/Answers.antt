@@ -1,5 +1,5 @@
 use Rattle.std.proofs.Common.{true≢false, refl, sym, ◌∙◌, arith}
-use Rattle.ir_core.proofs.edits.Asked.{forgets_found}
+use Rattle.ir_core.proofs.EditsLemmas.Asked.{forgets_found}
 use Rattle.ir_core.proofs.edits.arguments.remove_argument.Goals as goal
 
 pub returns : goal.returns

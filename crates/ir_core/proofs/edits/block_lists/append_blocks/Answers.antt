@@ -1,4 +1,4 @@
-use Rattle.ir_core.proofs.edits.Asked.{region_apart}
+use Rattle.ir_core.proofs.EditsLemmas.Asked.{region_apart}
 use Rattle.ir_core.proofs.edits.block_lists.append_blocks.Goals as goal
 
 pub append_linked_list-requires-clause-apart : goal.append_linked_list-requires-clause-apart

@@ -1,5 +1,5 @@
 use Rattle.std.proofs.Common.{true≢false, refl, sym, ◌∙◌}
-use Rattle.ir_core.proofs.edits.Kept.{moved_erased}
+use Rattle.ir_core.proofs.EditsLemmas.Kept.{moved_erased}
 use Rattle.ir_core.proofs.edits.holders.move_region_to_op.Goals as goal
 
 pub returns : goal.returns

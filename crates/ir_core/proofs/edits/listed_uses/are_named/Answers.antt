@@ -4,7 +4,7 @@ use Rattle.ir_program.specs.declared.handles.Ptr.{Ptr}
 use Rattle.ir_program.specs.declared.handles.Operation.{Operation}
 use Rattle.ir_core.specs.declared.edits.edit.PlaceAt.{PlaceAt}
 use Rattle.ir_core.specs.edits.Naming.{operation_named}
-use Rattle.ir_core.proofs.edits.Lists.{one-more}
+use Rattle.ir_core.proofs.EditsLemmas.Lists.{one-more}
 use Rattle.ir_core.proofs.edits.listed_uses.are_named.Goals as goal
 
 -- the place's operation is named by nothing

@@ -1,7 +1,7 @@
 use Rattle.std.proofs.Common.{arith}
 use Rattle.std.proofs.lemmas.Option.{slice_get-get_or}
 use Rattle.ir_program.specs.Rows.{successors_at}
-use Rattle.ir_core.proofs.edits.Listing.{listed-all, one-place}
+use Rattle.ir_core.proofs.EditsLemmas.Listing.{listed-all, one-place}
 use Rattle.ir_core.proofs.edits.listed_uses.listed_successors.Goals as goal
 
 pub loop-place-preserved : goal.loop-place-preserved

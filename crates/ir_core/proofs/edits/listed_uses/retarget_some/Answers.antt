@@ -2,7 +2,7 @@ use Rattle.std.proofs.Common.{refl, sym, ◌∙◌, ap, slice_get, subst}
 use Rattle.ir_program.specs.Among.{is_among}
 use Rattle.ir_program.specs.Edits.{EditsOperations}
 use Rattle.ir_program.specs.Replacing.{with_chosen}
-use Rattle.ir_core.proofs.edits.Makings.{same_still}
+use Rattle.ir_core.proofs.EditsLemmas.Makings.{same_still}
 use Rattle.ir_core.proofs.edits.listed_uses.retarget_some.Goals as goal
 
 pub retarget_preds_to-succeeds-requires-clause-stand : goal.retarget_preds_to-succeeds-requires-clause-stand

@@ -1,5 +1,5 @@
 use Rattle.std.proofs.Common.{[], refl}
-use Rattle.ir_core.proofs.edits.Makings.{named_each, built_of, same_still}
+use Rattle.ir_core.proofs.EditsLemmas.Makings.{named_each, built_of, same_still}
 use Rattle.ir_core.specs.edits.Naming.{value_named, block_named}
 use Rattle.ir_program.specs.Program.{block_at, IsLiveValue}
 use Rattle.std.proofs.Common.{IsSome, ap, slice_get, Err, ◌∙◌, sym}

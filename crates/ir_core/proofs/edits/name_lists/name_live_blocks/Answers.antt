@@ -5,7 +5,7 @@ use Rattle.ir_program.specs.declared.handles.BasicBlock.{BasicBlock}
 use Rattle.ir_program.specs.Program.{block_at}
 use Rattle.ir_core.specs.declared.edits.edit.At.{At}
 use Rattle.ir_core.specs.edits.Naming.{block_named}
-use Rattle.ir_core.proofs.edits.Lists.{one-more}
+use Rattle.ir_core.proofs.EditsLemmas.Lists.{one-more}
 use Rattle.ir_core.proofs.edits.name_lists.name_live_blocks.Goals as goal
 
 -- the name stands for nothing

@@ -4,7 +4,7 @@ use Rattle.ir_program.specs.declared.handles.Value.{Value}
 use Rattle.ir_program.specs.Program.{IsLiveValue}
 use Rattle.ir_core.specs.declared.edits.edit.ValueAt.{ValueAt}
 use Rattle.ir_core.specs.edits.Naming.{value_named}
-use Rattle.ir_core.proofs.edits.Lists.{one-more}
+use Rattle.ir_core.proofs.EditsLemmas.Lists.{one-more}
 use Rattle.ir_core.proofs.edits.name_lists.name_live_values.Goals as goal
 
 -- the name stands for nothing

@@ -1,8 +1,8 @@
 use Rattle.std.proofs.Common.{◌<◌, length, sym, ◌∙◌, arith}
 use Rattle.std.proofs.lemmas.Option.{slice_get-get_or, slice_get_within}
 use Rattle.ir_core.specs.edits.Naming.{value_named}
-use Rattle.ir_core.proofs.edits.Lists.{named-more}
-use Rattle.ir_core.proofs.edits.Named.{none_no_some}
+use Rattle.ir_core.proofs.EditsLemmas.Lists.{named-more}
+use Rattle.ir_core.proofs.EditsLemmas.Named.{none_no_some}
 use Rattle.ir_core.proofs.edits.name_lists.values.Goals as goal
 
 pub unreachable-requires : goal.unreachable-requires

@@ -1,5 +1,5 @@
 use Rattle.std.proofs.Common.{refl, sym, ◌∙◌}
-use Rattle.ir_core.proofs.edits.Asked.{operand_popped}
+use Rattle.ir_core.proofs.EditsLemmas.Asked.{operand_popped}
 use Rattle.ir_core.proofs.edits.operands.pop_operand.Goals as goal
 
 pub returns : goal.returns

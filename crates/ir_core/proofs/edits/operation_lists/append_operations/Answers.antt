@@ -1,4 +1,4 @@
-use Rattle.ir_core.proofs.edits.Asked.{block_apart}
+use Rattle.ir_core.proofs.EditsLemmas.Asked.{block_apart}
 use Rattle.ir_core.proofs.edits.operation_lists.append_operations.Goals as goal
 
 pub append_linked_list-requires-clause-apart : goal.append_linked_list-requires-clause-apart

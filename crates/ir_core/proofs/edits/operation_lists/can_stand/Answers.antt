@@ -1,6 +1,6 @@
 use Rattle.std.proofs.Common.{sym, ◌∙◌}
 use Rattle.ir_program.specs.Lists.{StandsInBlock}
-use Rattle.ir_core.proofs.edits.Asked.{can_stand_where}
+use Rattle.ir_core.proofs.EditsLemmas.Asked.{can_stand_where}
 use Rattle.ir_core.proofs.edits.operation_lists.can_stand.Goals as goal
 
 pub returns-then-is_live : goal.returns-then-is_live

@@ -1,5 +1,5 @@
 use Rattle.ir_program.specs.Program.{results_at, value_in}
-use Rattle.ir_core.proofs.edits.Asked.{used_at}
+use Rattle.ir_core.proofs.EditsLemmas.Asked.{used_at}
 use Rattle.ir_core.proofs.edits.results.has_used_result.Goals as goal
 
 pub returns : goal.returns

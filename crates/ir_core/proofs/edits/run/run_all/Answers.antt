@@ -2,8 +2,8 @@ use Rattle.std.proofs.Common.{◌≡◌, ◌<◌, [], length, take, drop, Some, 
 use Rattle.std.proofs.lemmas.List.{length-set}
 use Rattle.std.proofs.lemmas.Option.{slice_get-get_or}
 use Rattle.ir_core.specs.edits.Steps.{step}
-use Rattle.ir_core.proofs.edits.Kept.{runs_kept}
-use Rattle.ir_core.proofs.edits.Running.{ComesTo, came, stopped, ended}
+use Rattle.ir_core.proofs.EditsLemmas.Kept.{runs_kept}
+use Rattle.ir_core.proofs.EditsLemmas.Running.{ComesTo, came, stopped, ended}
 use Rattle.ir_core.proofs.edits.run.run_all.Goals as goal
 
 pub returns-in-Err-clause-refused : goal.returns-in-Err-clause-refused

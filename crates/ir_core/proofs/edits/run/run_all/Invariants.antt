@@ -1,5 +1,5 @@
 use Rattle.std.proofs.Common.{◌≡◌, length, take, drop}
-use Rattle.ir_core.proofs.edits.Running.{ComesTo}
+use Rattle.ir_core.proofs.EditsLemmas.Running.{ComesTo}
 use Rattle.ir_core.proofs.edits.run.run_all.Given as goal
 
 abbrev pub invariant-loop-index : goal.invariant-loop-index

@@ -1,5 +1,5 @@
 use Rattle.std.proofs.Common.{refl, sym, ◌∙◌}
-use Rattle.ir_core.proofs.edits.Asked.{successor_popped}
+use Rattle.ir_core.proofs.EditsLemmas.Asked.{successor_popped}
 use Rattle.ir_core.proofs.edits.successors.pop_successor.Goals as goal
 
 pub returns : goal.returns

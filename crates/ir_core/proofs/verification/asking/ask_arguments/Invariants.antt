@@ -1,6 +1,6 @@
 use Rattle.ir_program.specs.Program.{arguments_at}
 use Rattle.ir_core.specs.verification.Tests.{tests_of_types}
-use Rattle.ir_core.proofs.verification.Asked.{AcceptBelow}
+use Rattle.ir_core.proofs.VerificationLemmas.Asked.{AcceptBelow}
 use Rattle.ir_core.proofs.verification.asking.ask_arguments.Given as goal
 
 abbrev pub invariant-loop-i : goal.invariant-loop-i

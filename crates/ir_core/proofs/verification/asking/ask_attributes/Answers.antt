@@ -1,7 +1,7 @@
 use Rattle.std.proofs.Common.{ap, ◌∙◌}
 use Rattle.ir_core.specs.verification.Tests.{tests_of_attributes, of_attr}
-use Rattle.ir_core.proofs.verification.Asked.{accepted-of, refused-of, answered-of, answers-err, handed-on}
-use Rattle.ir_core.proofs.verification.Passed.{passed-first, passed-next, passed-over, fault-next}
+use Rattle.ir_core.proofs.VerificationLemmas.Asked.{accepted-of, refused-of, answered-of, answers-err, handed-on}
+use Rattle.ir_core.proofs.VerificationLemmas.Passed.{passed-first, passed-next, passed-over, fault-next}
 use Rattle.ir_core.proofs.verification.asking.ask_attributes.Goals as goal
 
 pub loop-name-init : goal.loop-name-init

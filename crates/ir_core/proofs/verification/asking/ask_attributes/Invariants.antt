@@ -1,5 +1,5 @@
 use Rattle.ir_core.specs.verification.Tests.{tests_of_attributes}
-use Rattle.ir_core.proofs.verification.Passed.{HasPassed}
+use Rattle.ir_core.proofs.VerificationLemmas.Passed.{HasPassed}
 use Rattle.ir_core.proofs.verification.asking.ask_attributes.Given as goal
 
 abbrev pub invariant-loop-name : goal.invariant-loop-name

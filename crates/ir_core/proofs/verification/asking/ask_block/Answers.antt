@@ -3,7 +3,7 @@ use Rattle.ir_program.specs.Program.{arguments_at}
 use Rattle.ir_program.specs.Lent.{block_payload_at}
 use Rattle.ir_context.specs.declared.notes.BlockNotes.{BlockNotes}
 use Rattle.ir_core.specs.verification.Tests.{tests_of_attributes, tests_of_types}
-use Rattle.ir_core.proofs.verification.Asked.{first-refuses, second-answers}
+use Rattle.ir_core.proofs.VerificationLemmas.Asked.{first-refuses, second-answers}
 use Rattle.ir_core.proofs.verification.asking.ask_block.Goals as goal
 
 pub returns-in_err-ask_attributes : goal.returns-in_err-ask_attributes

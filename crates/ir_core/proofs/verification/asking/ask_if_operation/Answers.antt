@@ -1,7 +1,7 @@
 use Rattle.std.proofs.Common.{sym, subst}
 use Rattle.ir_core.specs.verification.Tests.{operation_tests_of, of_op}
 use Rattle.ir_core.specs.verification.Verified.{AnswersTests}
-use Rattle.ir_core.proofs.verification.Asked.{one-test}
+use Rattle.ir_core.proofs.VerificationLemmas.Asked.{one-test}
 use Rattle.ir_core.proofs.verification.asking.ask_if_operation.Goals as goal
 
 pub returns-in-Operation : goal.returns-in-Operation

@@ -1,7 +1,7 @@
 use Rattle.ir_program.specs.Preorder.{nodes_inside}
 use Rattle.ir_core.specs.verification.Tests.{tests_of, tests_inside}
-use Rattle.ir_core.proofs.verification.Asked.{ok-of, err-of, answers-err, handed-on}
-use Rattle.ir_core.proofs.verification.Passed.{node_there, AcceptsAll, passed-next, passed-over, fault-inside, all-flat}
+use Rattle.ir_core.proofs.VerificationLemmas.Asked.{ok-of, err-of, answers-err, handed-on}
+use Rattle.ir_core.proofs.VerificationLemmas.Passed.{node_there, AcceptsAll, passed-next, passed-over, fault-inside, all-flat}
 use Rattle.ir_core.proofs.verification.asking.ask_inside.Goals as goal
 
 pub loop-node-preserved : goal.loop-node-preserved

@@ -1,6 +1,6 @@
 use Rattle.ir_program.specs.Preorder.{nodes_inside}
 use Rattle.ir_core.specs.verification.Tests.{tests_of}
-use Rattle.ir_core.proofs.verification.Passed.{HasPassed, AcceptsAll}
+use Rattle.ir_core.proofs.VerificationLemmas.Passed.{HasPassed, AcceptsAll}
 use Rattle.ir_core.proofs.verification.asking.ask_inside.Given as goal
 
 abbrev pub invariant-loop-node : goal.invariant-loop-node

@@ -3,7 +3,7 @@ use Rattle.ir_program.specs.Program.{results_at}
 use Rattle.ir_context.specs.Kept.{notes_at}
 use Rattle.ir_context.specs.declared.notes.OperationNotes.{OperationNotes}
 use Rattle.ir_core.specs.verification.Tests.{tests_of_attributes, tests_of_types, of_op}
-use Rattle.ir_core.proofs.verification.Asked.{first-refuses, second-answers, one-test}
+use Rattle.ir_core.proofs.VerificationLemmas.Asked.{first-refuses, second-answers, one-test}
 use Rattle.ir_core.proofs.verification.asking.ask_operation.Goals as goal
 
 pub returns-in_err-verify_op : goal.returns-in_err-verify_op

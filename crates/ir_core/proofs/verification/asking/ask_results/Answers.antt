@@ -2,8 +2,8 @@ use Rattle.std.proofs.Common.{◌∙◌, sym, ◌≡◌, length, arith, ◌≤�
 use Rattle.std.proofs.lemmas.List.{length-map}
 use Rattle.ir_program.specs.Program.{results_at}
 use Rattle.ir_core.specs.verification.Tests.{tests_of_types}
-use Rattle.ir_core.proofs.verification.Asked.{type-tested, type_test, below-next, below-all, accepted-of, refused-of, answered-of, answers-err, handed-on}
-use Rattle.ir_core.proofs.verification.Passed.{fault-at}
+use Rattle.ir_core.proofs.VerificationLemmas.Asked.{type-tested, type_test, below-next, below-all, accepted-of, refused-of, answered-of, answers-err, handed-on}
+use Rattle.ir_core.proofs.VerificationLemmas.Passed.{fault-at}
 use Rattle.ir_core.proofs.verification.asking.ask_results.Goals as goal
 
 pub returns-in_err-verify_type : goal.returns-in_err-verify_type

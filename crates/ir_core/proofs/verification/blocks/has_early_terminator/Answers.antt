@@ -2,8 +2,8 @@ use Rattle.std.proofs.Common.{false, refl, subst, sym, ◌∙◌}
 use Rattle.ir_names.specs.declared.interfaces.OpInterface.TheVariants.{IsTerminator}
 use Rattle.ir_program.specs.Lists.{operations_in}
 use Rattle.ir_core.specs.verification.Endings.{implements}
-use Rattle.ir_core.proofs.verification.Early.{IsLooked, looked-first, looked-next, looked-found, looked-over}
-use Rattle.ir_core.proofs.verification.Flaws.{from-early, to-early}
+use Rattle.ir_core.proofs.VerificationLemmas.Early.{IsLooked, looked-first, looked-next, looked-found, looked-over}
+use Rattle.ir_core.proofs.VerificationLemmas.Flaws.{from-early, to-early}
 use Rattle.ir_core.proofs.verification.blocks.has_early_terminator.Goals as goal
 
 pub loop-op-init : goal.loop-op-init

@@ -1,7 +1,7 @@
 use Rattle.ir_names.specs.declared.interfaces.OpInterface.TheVariants.{IsTerminator}
 use Rattle.ir_program.specs.Lists.{operations_in}
 use Rattle.ir_core.specs.verification.Endings.{implements}
-use Rattle.ir_core.proofs.verification.Early.{IsLooked}
+use Rattle.ir_core.proofs.VerificationLemmas.Early.{IsLooked}
 use Rattle.ir_core.proofs.verification.blocks.has_early_terminator.Given as goal
 
 abbrev pub invariant-loop-op : goal.invariant-loop-op

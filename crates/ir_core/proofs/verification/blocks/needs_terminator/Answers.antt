@@ -1,5 +1,5 @@
 use Rattle.std.proofs.Common.{◌≡◌, Some, None, refl, sym, ◌∙◌}
-use Rattle.ir_core.proofs.verification.Flaws.{needs-held}
+use Rattle.ir_core.proofs.VerificationLemmas.Flaws.{needs-held}
 use Rattle.ir_core.proofs.verification.blocks.needs_terminator.Goals as goal
 
 pub returns-in-Some : goal.returns-in-Some

@@ -2,7 +2,7 @@ use Rattle.std.proofs.Common.{refl}
 use Rattle.std.proofs.lemmas.Bool.{both_ways}
 use Rattle.ir_program.specs.Preorder.{nodes_inside}
 use Rattle.ir_core.specs.verification.Endings.{IsFlawed}
-use Rattle.ir_core.proofs.verification.Passed.{node_there, passed-at, passed-next, passed-over, all-at}
+use Rattle.ir_core.proofs.VerificationLemmas.Passed.{node_there, passed-at, passed-next, passed-over, all-at}
 use Rattle.ir_core.proofs.verification.blocks.some_has_flaw.Goals as goal
 
 pub returns-then-is_flawed : goal.returns-then-is_flawed

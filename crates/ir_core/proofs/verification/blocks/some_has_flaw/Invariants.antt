@@ -1,6 +1,6 @@
 use Rattle.ir_program.specs.Preorder.{nodes_inside}
 use Rattle.ir_core.specs.verification.Endings.{IsFlawed}
-use Rattle.ir_core.proofs.verification.Passed.{HasPassed}
+use Rattle.ir_core.proofs.VerificationLemmas.Passed.{HasPassed}
 use Rattle.ir_core.proofs.verification.blocks.some_has_flaw.Given as goal
 
 abbrev pub invariant-loop-node : goal.invariant-loop-node

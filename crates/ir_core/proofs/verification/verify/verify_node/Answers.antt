@@ -1,7 +1,7 @@
 use Rattle.std.proofs.Common.{sym, subst}
 use Rattle.std.proofs.lemmas.Bool.{both_ways}
 use Rattle.ir_core.specs.verification.Verified.{AnswersVerify, own_answer}
-use Rattle.ir_core.proofs.verification.Answered.{ends-well, verified-answer, answer-accepted}
+use Rattle.ir_core.proofs.VerificationLemmas.Answered.{ends-well, verified-answer, answer-accepted}
 use Rattle.ir_core.proofs.verification.verify.verify_node.Goals as goal
 
 pub returns-clause-accepted : goal.returns-clause-accepted

@@ -2,7 +2,7 @@ use Rattle.std.proofs.Common.{sym, subst}
 use Rattle.ir_program.specs.declared.handles.IRNode.TheVariants.{Operation as OperationNode}
 use Rattle.ir_core.specs.verification.Tests.{operation_tests_inside}
 use Rattle.ir_core.specs.verification.Verified.{AnswersOwn}
-use Rattle.ir_core.proofs.verification.Answered.{own-answers, ops-accepted}
+use Rattle.ir_core.proofs.VerificationLemmas.Answered.{own-answers, ops-accepted}
 use Rattle.ir_core.proofs.verification.verify.verify_op.Goals as goal
 
 pub returns-clause-accepted : goal.returns-clause-accepted

@@ -1,8 +1,8 @@
 use Rattle.std.proofs.Common.{◌∷◌, [], sym, subst}
 use Rattle.ir_core.specs.verification.Tests.{of_type}
 use Rattle.ir_core.specs.verification.Verified.{AnswersOwn}
-use Rattle.ir_core.proofs.verification.Asked.{one-test}
-use Rattle.ir_core.proofs.verification.Answered.{own-answers, own-ok}
+use Rattle.ir_core.proofs.VerificationLemmas.Asked.{one-test}
+use Rattle.ir_core.proofs.VerificationLemmas.Answered.{own-answers, own-ok}
 use Rattle.ir_core.proofs.verification.verify.verify_type.Goals as goal
 
 pub returns-clause-accepted : goal.returns-clause-accepted

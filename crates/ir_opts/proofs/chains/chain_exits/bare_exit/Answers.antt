@@ -4,8 +4,8 @@ use Rattle.ir_program.specs.Program.{operation_at}
 use Rattle.ir_program.specs.Rows.{successors_at}
 use Rattle.ir_program.specs.declared.handles.Operation.{Operation}
 use Rattle.ir_program.specs.declared.handles.Ptr.{Ptr}
-use Rattle.ir_opts.proofs.chains.ChainExits.{bare_exit_is, exit_last, exit_successors}
-use Rattle.ir_opts.proofs.chains.MergeLists.{same_some}
+use Rattle.ir_opts.proofs.ChainsLemmas.ChainExits.{bare_exit_is, exit_last, exit_successors}
+use Rattle.ir_opts.proofs.ChainsLemmas.MergeLists.{same_some}
 use Rattle.ir_opts.proofs.chains.chain_exits.bare_exit.Goals as goal
 use Rattle.ir_opts.proofs.chains.chain_exits.bare_exit.Goals.{else-is_bare-via-then-is_bare+else-successor_count-eq1, else-is_bare-via-else-is_bare}
 

@@ -1,6 +1,6 @@
 use Rattle.std.proofs.Common.{◌<◌, None, Some, get_or, subst, sym, ap, ◌∙◌}
 use Rattle.std.proofs.lemmas.Option.{slice_get-get_or}
-use Rattle.ir_opts.proofs.chains.ChainFirsts.{all_marked, one_unmarked}
+use Rattle.ir_opts.proofs.ChainsLemmas.ChainFirsts.{all_marked, one_unmarked}
 use Rattle.ir_opts.proofs.chains.chain_firsts.firsts.Goals as goal
 
 pub loop-to-init : goal.loop-to-init

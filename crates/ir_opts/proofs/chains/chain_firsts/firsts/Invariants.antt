@@ -1,4 +1,4 @@
-use Rattle.ir_opts.proofs.chains.ChainFirsts.{AreUnmarked}
+use Rattle.ir_opts.proofs.ChainsLemmas.ChainFirsts.{AreUnmarked}
 use Rattle.ir_opts.proofs.chains.chain_firsts.firsts.Given as goal
 
 -- what the numbers up to here lead to isn't marked

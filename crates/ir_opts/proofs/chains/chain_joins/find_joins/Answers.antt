@@ -5,8 +5,8 @@ use Rattle.ir_program.specs.declared.handles.BasicBlock.{BasicBlock}
 use Rattle.opt_inside.specs.Numbered.{numbers_of}
 use Rattle.ir_opts.specs.chains.Chained.{LeadsWhereJoinable}
 use Rattle.ir_opts.specs.chains.NextBlocks.{IsElsewhere}
-use Rattle.ir_opts.proofs.chains.NextElsewhere.{elsewhere_none, no_chains}
-use Rattle.ir_opts.proofs.chains.NextJoinable.{Occurs}
+use Rattle.ir_opts.proofs.ChainsLemmas.NextElsewhere.{elsewhere_none, no_chains}
+use Rattle.ir_opts.proofs.ChainsLemmas.NextJoinable.{Occurs}
 use Rattle.ir_opts.proofs.chains.chain_joins.find_joins.Goals as goal
 
 pub may_come-requires : goal.may_come-requires

@@ -4,7 +4,7 @@ use Rattle.ir_program.specs.Lists.{StandsInRegion}
 use Rattle.ir_program.specs.Program.{no_handle}
 use Rattle.ir_program.specs.declared.handles.Ptr.{Ptr}
 use Rattle.ir_program.specs.declared.handles.BasicBlock.{BasicBlock}
-use Rattle.ir_opts.proofs.chains.NextElsewhere.{none_more}
+use Rattle.ir_opts.proofs.ChainsLemmas.NextElsewhere.{none_more}
 use Rattle.ir_opts.proofs.chains.chain_joins.holds_one.Goals as goal
 
 pub stands_in-requires : goal.stands_in-requires

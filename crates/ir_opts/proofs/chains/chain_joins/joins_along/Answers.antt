@@ -10,8 +10,8 @@ use Rattle.ir_trees.specs.Searched.{AreDistinct}
 use Rattle.opt_inside.proofs.Around.{HasLists}
 use Rattle.ir_opts.specs.chains.ChainSteps.{AreLinks, AreWalked, IsFirst}
 use Rattle.ir_opts.specs.chains.NamedSteps.{HasExit, AreNamedSteps}
-use Rattle.ir_opts.proofs.chains.ChainGlue.{exits_of_steps, chains_of_steps}
-use Rattle.ir_opts.proofs.chains.ChainPaths.{links_named}
+use Rattle.ir_opts.proofs.ChainsLemmas.ChainGlue.{exits_of_steps, chains_of_steps}
+use Rattle.ir_opts.proofs.ChainsLemmas.ChainPaths.{links_named}
 use Rattle.ir_opts.proofs.chains.chain_joins.joins_along.Goals as goal
 
 pub firsts-requires : goal.firsts-requires

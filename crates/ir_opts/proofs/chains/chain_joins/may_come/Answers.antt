@@ -1,6 +1,6 @@
 use Rattle.std.proofs.Common.{true≢false, sym, subst}
 use Rattle.ir_opts.specs.chains.Chained.{StartsSomewhere}
-use Rattle.ir_opts.proofs.chains.NextElsewhere.{begins_there, begins_in}
+use Rattle.ir_opts.proofs.ChainsLemmas.NextElsewhere.{begins_there, begins_in}
 use Rattle.ir_opts.proofs.chains.chain_joins.may_come.Goals as goal
 
 pub returns-in_default : goal.returns-in_default

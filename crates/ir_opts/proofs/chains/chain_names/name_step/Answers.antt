@@ -1,6 +1,6 @@
 use Rattle.std.proofs.lemmas.Option.{slice_get-get_or}
 use Rattle.ir_program.specs.Program.{no_handle}
-use Rattle.ir_opts.proofs.chains.ChainNames.{below_length, step_named, exit_there}
+use Rattle.ir_opts.proofs.ChainsLemmas.ChainNames.{below_length, step_named, exit_there}
 use Rattle.ir_opts.proofs.chains.chain_names.name_step.Goals as goal
 
 pub unreachable-requires : goal.unreachable-requires

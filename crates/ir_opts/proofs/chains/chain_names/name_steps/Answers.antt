@@ -1,6 +1,6 @@
 use Rattle.std.proofs.lemmas.Option.{slice_get-get_or}
 use Rattle.ir_opts.specs.declared.chains.chain_steps.ChainStep.{ChainStep}
-use Rattle.ir_opts.proofs.chains.ChainNames.{one_named}
+use Rattle.ir_opts.proofs.ChainsLemmas.ChainNames.{one_named}
 use Rattle.ir_opts.proofs.chains.chain_names.name_steps.Goals as goal
 
 -- a step that is never taken

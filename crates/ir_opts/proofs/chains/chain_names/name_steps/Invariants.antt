@@ -1,4 +1,4 @@
-use Rattle.ir_opts.proofs.chains.ChainNames.{AreNamedUpTo}
+use Rattle.ir_opts.proofs.ChainsLemmas.ChainNames.{AreNamedUpTo}
 use Rattle.ir_opts.proofs.chains.chain_names.name_steps.Given as goal
 
 -- the steps up to here have names

@@ -3,8 +3,8 @@ use Rattle.std.proofs.lemmas.Option.{slice_get-get_or}
 use Rattle.std.specs.declared.alloc.Global.{Global}
 use Rattle.std.specs.declared.vec.Vec.{Vec}
 use Rattle.ir_opts.specs.declared.chains.chain_steps.ChainStep.{ChainStep}
-use Rattle.ir_opts.proofs.chains.ChainApart.{all_walked}
-use Rattle.ir_opts.proofs.chains.ChainRows.{HasWalked, none_walked, one_walked, one_passed}
+use Rattle.ir_opts.proofs.ChainsLemmas.ChainApart.{all_walked}
+use Rattle.ir_opts.proofs.ChainsLemmas.ChainRows.{HasWalked, none_walked, one_walked, one_passed}
 use Rattle.ir_opts.proofs.chains.chain_steps.chain_steps.Goals as goal
 use Rattle.ir_opts.proofs.chains.chain_steps.chain_steps.Goals.{then-firsts-first+in_ok-walk, else-firsts-first}
 

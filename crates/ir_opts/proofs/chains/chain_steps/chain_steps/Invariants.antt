@@ -1,4 +1,4 @@
-use Rattle.ir_opts.proofs.chains.ChainRows.{HasWalked}
+use Rattle.ir_opts.proofs.ChainsLemmas.ChainRows.{HasWalked}
 use Rattle.ir_opts.proofs.chains.chain_steps.chain_steps.Given as goal
 
 -- the chains of the firsts up to here are walked

@@ -1,7 +1,7 @@
 use Rattle.std.proofs.Common.{◌<◌, ◌-◌, length, Some, None, subst, sym, ap, ◌∙◌}
 use Rattle.std.proofs.lemmas.Option.{slice_get-get_or}
 use Rattle.ir_opts.specs.chains.ChainSteps.{behind}
-use Rattle.ir_opts.proofs.chains.ChainRows.{IsWalking, walking_goes, fewer_left, walking_ends}
+use Rattle.ir_opts.proofs.ChainsLemmas.ChainRows.{IsWalking, walking_goes, fewer_left, walking_ends}
 use Rattle.ir_opts.proofs.chains.chain_steps.walk.Goals as goal
 
 pub loop-at-smaller : goal.loop-at-smaller

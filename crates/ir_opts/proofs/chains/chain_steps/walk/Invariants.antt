@@ -1,6 +1,6 @@
 use Rattle.std.proofs.Common.{◌-◌, length}
 use Rattle.ir_opts.specs.chains.ChainSteps.{behind}
-use Rattle.ir_opts.proofs.chains.ChainRows.{IsWalking}
+use Rattle.ir_opts.proofs.ChainsLemmas.ChainRows.{IsWalking}
 use Rattle.ir_opts.proofs.chains.chain_steps.walk.Given as goal
 
 -- the chain is walked up to here

@@ -7,7 +7,7 @@ use Rattle.ir_program.specs.declared.handles.Value.{Value}
 use Rattle.ir_trees.specs.Stands.{ProgramTree, StandsFor}
 use Rattle.opt_inside.proofs.Around.{HasLists}
 use Rattle.opt_inside.specs.Occurring.{OfItsTree, EachFound, EachBlock, IsOccurrence, IsBlockOccurrence}
-use Rattle.ir_opts.proofs.chains.MergeWhole.{IsKnown, joins_now, unused_now, merges_blocks}
+use Rattle.ir_opts.proofs.ChainsLemmas.MergeWhole.{IsKnown, joins_now, unused_now, merges_blocks}
 use Rattle.ir_opts.proofs.chains.merge_plan.apply_plan.Goals as goal
 
 pub replace_arguments-requires-clause-live : goal.replace_arguments-requires-clause-live

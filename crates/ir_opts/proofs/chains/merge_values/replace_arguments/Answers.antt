@@ -3,7 +3,7 @@ use Rattle.std.proofs.lemmas.Option.{slice_get-get_or}
 use Rattle.ir_program.specs.Program.{no_handle}
 use Rattle.ir_program.specs.declared.handles.DefiningEntity.TheVariants.{Op as ByOp}
 use Rattle.ir_opts.specs.declared.chains.merge_values.StandIn.{StandIn}
-use Rattle.ir_opts.proofs.chains.MergeValues.{none_instead, one_instead, still_there, keeps_both, keeps_all}
+use Rattle.ir_opts.proofs.ChainsLemmas.MergeValues.{none_instead, one_instead, still_there, keeps_both, keeps_all}
 use Rattle.ir_opts.proofs.chains.merge_values.replace_arguments.Goals as goal
 
 -- one that is never taken

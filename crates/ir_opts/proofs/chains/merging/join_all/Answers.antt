@@ -4,7 +4,7 @@ use Rattle.ir_program.specs.Program.{no_handle}
 use Rattle.opt_inside.proofs.Around.{HasLists}
 use Rattle.ir_opts.specs.declared.chains.merging.Join.{Join}
 use Rattle.ir_opts.specs.chains.Merging.{HasJoined}
-use Rattle.ir_opts.proofs.chains.MergeSteps.{none_joined, ready_now, one_more, take_more}
+use Rattle.ir_opts.proofs.ChainsLemmas.MergeSteps.{none_joined, ready_now, one_more, take_more}
 use Rattle.ir_opts.proofs.chains.merging.join_all.Goals as goal
 
 -- a step that is never taken

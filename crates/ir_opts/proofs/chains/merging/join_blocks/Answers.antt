@@ -5,7 +5,7 @@ use Rattle.ir_program.specs.Uses.{IsUsed}
 use Rattle.ir_program.specs.declared.handles.Value.{Value}
 use Rattle.ir_program.specs.Program.{type_at, IsLiveValue}
 use Rattle.opt_inside.proofs.Around.{HasLists}
-use Rattle.ir_opts.proofs.chains.MergePairs.{branch_apart, first_there, block_there, can_append, emptied_there, block_apart, joined_blocks}
+use Rattle.ir_opts.proofs.ChainsLemmas.MergePairs.{branch_apart, first_there, block_there, can_append, emptied_there, block_apart, joined_blocks}
 use Rattle.ir_opts.proofs.chains.merging.join_blocks.Goals as goal
 
 pub erase-requires-clause-apart : goal.erase-requires-clause-apart

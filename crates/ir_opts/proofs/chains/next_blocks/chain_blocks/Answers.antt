@@ -3,7 +3,7 @@ use Rattle.std.proofs.lemmas.List.{length-append}
 use Rattle.std.proofs.lemmas.Option.{slice_get-get_or}
 use Rattle.ir_program.specs.Program.{no_handle}
 use Rattle.opt_inside.specs.declared.reach.fates.Fate.TheVariants.{Entered}
-use Rattle.ir_opts.proofs.chains.NextBlock.{one_seen}
+use Rattle.ir_opts.proofs.ChainsLemmas.NextBlock.{one_seen}
 use Rattle.ir_opts.proofs.chains.next_blocks.chain_blocks.Goals as goal
 
 pub loop-number-preserved : goal.loop-number-preserved

@@ -1,4 +1,4 @@
-use Rattle.ir_opts.proofs.chains.NextBlock.{entry_is}
+use Rattle.ir_opts.proofs.ChainsLemmas.NextBlock.{entry_is}
 use Rattle.ir_opts.proofs.chains.next_blocks.is_entry.Goals as goal
 
 pub returns : goal.returns

@@ -1,5 +1,5 @@
 -- The region of the block, and the operation that holds it.
-use Rattle.ir_opts.proofs.chains.NextBlock.{ssa_is, not_in_ssa}
+use Rattle.ir_opts.proofs.ChainsLemmas.NextBlock.{ssa_is, not_in_ssa}
 use Rattle.ir_opts.proofs.chains.next_blocks.is_in_ssa.Goals as goal
 
 pub returns-in-Some : goal.returns-in-Some

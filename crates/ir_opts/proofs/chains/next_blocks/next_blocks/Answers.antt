@@ -10,7 +10,7 @@ use Rattle.opt_inside.specs.reach.Starts.{IsStartIn}
 use Rattle.opt_inside.specs.declared.reach.fates.Fate.{Fate}
 use Rattle.ir_opts.specs.chains.Chained.{LeadsWhereJoinable}
 use Rattle.ir_opts.specs.chains.NextBlocks.{AreChainBlocks}
-use Rattle.ir_opts.proofs.chains.NextJoinable.{Occurs, leads_where_joinable}
+use Rattle.ir_opts.proofs.ChainsLemmas.NextJoinable.{Occurs, leads_where_joinable}
 use Rattle.ir_opts.proofs.chains.next_blocks.next_blocks.Goals as goal
 
 pub chain_blocks-requires-clause-live : goal.chain_blocks-requires-clause-live

@@ -1,6 +1,6 @@
 use Rattle.std.proofs.Common.{◌≡◌, Some, None, sym, ap, ◌∙◌}
 use Rattle.ir_opts.specs.declared.chains.chain_exits.Exit.{Exit}
-use Rattle.ir_opts.proofs.chains.MergeLists.{same_some}
+use Rattle.ir_opts.proofs.ChainsLemmas.MergeLists.{same_some}
 use Rattle.ir_opts.proofs.chains.next_blocks.only_next.Goals as goal
 
 pub returns-in_default-bare_exit : goal.returns-in_default-bare_exit

@@ -1,4 +1,4 @@
-use Rattle.ir_opts.proofs.decisions.Folded.{definer_there}
+use Rattle.ir_opts.proofs.DecisionsLemmas.Folded.{definer_there}
 use Rattle.ir_opts.proofs.decisions.alone.alone.Goals as goal
 
 pub folded-requires : goal.folded-requires

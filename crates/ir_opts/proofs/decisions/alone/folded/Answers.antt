@@ -1,6 +1,6 @@
 use Rattle.std.proofs.Common.{sym, ap, ◌∙◌}
 use Rattle.ir_program.specs.Program.{operation_at}
-use Rattle.ir_opts.proofs.decisions.Folded.{unfolded, folded_nowhere, folded_there, same_some}
+use Rattle.ir_opts.proofs.DecisionsLemmas.Folded.{unfolded, folded_nowhere, folded_there, same_some}
 use Rattle.ir_opts.proofs.decisions.alone.folded.Goals as goal
 
 pub returns-then-not-is_foldable : goal.returns-then-not-is_foldable

@@ -1,7 +1,7 @@
 use Rattle.std.proofs.Common.{arith}
 use Rattle.ir_program.specs.Rows.{operands_at}
 use Rattle.ir_opts.specs.decisions.Planned.{known_alone}
-use Rattle.ir_opts.proofs.decisions.Filled.{mapped_next, mapped_all}
+use Rattle.ir_opts.proofs.DecisionsLemmas.Filled.{mapped_next, mapped_all}
 use Rattle.ir_opts.proofs.decisions.alone.known_operands.Goals as goal
 
 pub loop-i-preserved : goal.loop-i-preserved

@@ -2,7 +2,7 @@ use Rattle.std.proofs.Common.{Option, None, refl, arith, get_or}
 use Rattle.std.proofs.lemmas.Option.{slice_get-get_or}
 use Rattle.ir_program.specs.Rows.{operands_at}
 use Rattle.ir_program.specs.declared.handles.Value.{Value}
-use Rattle.ir_opts.proofs.decisions.Filled.{mapped_next, no_value}
+use Rattle.ir_opts.proofs.DecisionsLemmas.Filled.{mapped_next, no_value}
 use Rattle.ir_opts.proofs.decisions.alone.nothing_known.Goals as goal
 
 pub loop-i-preserved : goal.loop-i-preserved

@@ -1,6 +1,6 @@
 use Rattle.std.proofs.Common.{Some, ap, sym, ◌∙◌, arith}
 use Rattle.ir_program.specs.Program.{results_at}
-use Rattle.ir_opts.proofs.decisions.Found.{equal_then, found_first, found_nowhere}
+use Rattle.ir_opts.proofs.DecisionsLemmas.Found.{equal_then, found_first, found_nowhere}
 use Rattle.ir_opts.proofs.decisions.alone.result_index.Goals as goal
 
 pub returns-then-eq : goal.returns-then-eq

@@ -1,5 +1,5 @@
 use Rattle.ir_program.specs.Program.{results_at}
-use Rattle.ir_opts.proofs.decisions.Found.{NotAmong}
+use Rattle.ir_opts.proofs.DecisionsLemmas.Found.{NotAmong}
 use Rattle.ir_opts.proofs.decisions.alone.result_index.Given as goal
 
 -- it is none of the first results

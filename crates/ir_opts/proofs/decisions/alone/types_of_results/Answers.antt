@@ -1,6 +1,6 @@
 use Rattle.std.proofs.Common.{arith}
 use Rattle.ir_program.specs.Program.{TypedValue, results_at}
-use Rattle.ir_opts.proofs.decisions.Filled.{typed_next, mapped_all}
+use Rattle.ir_opts.proofs.DecisionsLemmas.Filled.{typed_next, mapped_all}
 use Rattle.ir_opts.proofs.decisions.alone.types_of_results.Goals as goal
 
 pub loop-i-preserved : goal.loop-i-preserved

@@ -4,8 +4,8 @@ use Rattle.ir_program.specs.Program.{no_handle}
 use Rattle.ir_program.proofs.made.Frames.{on_err}
 use Rattle.ir_opts.specs.decisions.Phase.{HasDecided}
 use Rattle.ir_opts.specs.declared.decisions.plan.Decision.{Decision}
-use Rattle.ir_opts.proofs.decisions.Carried.{none_decided, none_taken, carried_alike, linked_yet, results_yet, regions_yet, bare, next_decided}
-use Rattle.ir_opts.proofs.decisions.Filled.{take_all}
+use Rattle.ir_opts.proofs.DecisionsLemmas.Carried.{none_decided, none_taken, carried_alike, linked_yet, results_yet, regions_yet, bare, next_decided}
+use Rattle.ir_opts.proofs.DecisionsLemmas.Filled.{take_all}
 use Rattle.ir_opts.proofs.decisions.deciding.carry_out.Goals as goal
 
 abbrev no_decision : Decision

@@ -5,9 +5,9 @@ use Rattle.ir_program.proofs.made.Frames.{on_err}
 use Rattle.opt_inside.proofs.Around.{HasLists}
 use Rattle.ir_opts.specs.decisions.Phase.{HasDecided, HasDecidedSome}
 use Rattle.ir_opts.specs.decisions.Planned.{AreDecisions}
-use Rattle.ir_opts.proofs.decisions.Carried.{none_decided, empty_list, no_empty}
-use Rattle.ir_opts.proofs.decisions.Ground.{Ground, nothing_done, part_done, branches_decided, edges_local, edges_fit, exact_none, exact_some}
-use Rattle.ir_opts.proofs.decisions.TreesDecided.{nothing_carried, all_carried}
+use Rattle.ir_opts.proofs.DecisionsLemmas.Carried.{none_decided, empty_list, no_empty}
+use Rattle.ir_opts.proofs.DecisionsLemmas.Ground.{Ground, nothing_done, part_done, branches_decided, edges_local, edges_fit, exact_none, exact_some}
+use Rattle.ir_opts.proofs.DecisionsLemmas.TreesDecided.{nothing_carried, all_carried}
 use Rattle.ir_opts.proofs.decisions.deciding.decide_branches.Goals as goal
 
 pub returns-in_err-decisions-clause-part : goal.returns-in_err-decisions-clause-part

@@ -1,7 +1,7 @@
 use Rattle.std.proofs.Common.{sym, ap, ◌∙◌, slice_get}
 use Rattle.opt_inside.specs.Numbered.{numbers_of}
 use Rattle.ir_opts.specs.decisions.Planned.{decisions_of, picked_edge}
-use Rattle.ir_opts.proofs.decisions.DecisionLists.{below_there, are_decisions, no_decisions}
+use Rattle.ir_opts.proofs.DecisionsLemmas.DecisionLists.{below_there, are_decisions, no_decisions}
 use Rattle.ir_opts.proofs.decisions.plan.decided_branches.Goals as goal
 
 pub decisions_of-requires : goal.decisions_of-requires

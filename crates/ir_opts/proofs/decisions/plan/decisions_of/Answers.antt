@@ -2,7 +2,7 @@ use Rattle.std.proofs.Common.{sym, ap, ◌∙◌, get_or, arith}
 use Rattle.std.proofs.lemmas.Option.{slice_get-get_or}
 use Rattle.ir_program.specs.Program.{no_handle}
 use Rattle.ir_opts.specs.decisions.Planned.{picked_edge}
-use Rattle.ir_opts.proofs.decisions.DecisionLists.{decision_more, decision_none, decisions_all}
+use Rattle.ir_opts.proofs.DecisionsLemmas.DecisionLists.{decision_more, decision_none, decisions_all}
 use Rattle.ir_opts.proofs.decisions.plan.decisions_of.Goals as goal
 use Rattle.ir_opts.proofs.decisions.plan.decisions_of.Goals.{in-Some+in_ok-push, in_default}
 

@@ -1,5 +1,5 @@
 use Rattle.std.proofs.Common.{◌∙◌}
-use Rattle.ir_opts.proofs.decisions.NewBranches.{still_linked, still_results, still_regions, new_bare, new_live, two, decided}
+use Rattle.ir_opts.proofs.DecisionsLemmas.NewBranches.{still_linked, still_results, still_regions, new_bare, new_live, two, decided}
 use Rattle.ir_opts.proofs.decisions.replacing.decide_branch.Goals as goal
 
 pub put_in_place-requires-clause-linked : goal.put_in_place-requires-clause-linked

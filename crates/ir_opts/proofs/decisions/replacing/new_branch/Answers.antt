@@ -6,8 +6,8 @@ use Rattle.ir_program.specs.declared.handles.Operation.{Operation}
 use Rattle.ir_program.specs.declared.handles.BasicBlock.{BasicBlock}
 use Rattle.ir_program.specs.declared.handles.Value.{Value}
 use Rattle.opt_trees.specs.Occurrences.{cons_if}
-use Rattle.ir_opts.proofs.decisions.Folded.{something}
-use Rattle.ir_opts.proofs.decisions.NewBranches.{live_operands, live_target, branch_built}
+use Rattle.ir_opts.proofs.DecisionsLemmas.Folded.{something}
+use Rattle.ir_opts.proofs.DecisionsLemmas.NewBranches.{live_operands, live_target, branch_built}
 use Rattle.ir_opts.proofs.decisions.replacing.new_branch.Goals as goal
 
 pub new_operation-requires-clause-operands : goal.new_operation-requires-clause-operands

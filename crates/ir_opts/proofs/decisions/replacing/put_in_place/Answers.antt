@@ -7,8 +7,8 @@ use Rattle.ir_program.specs.Rows.{operands_at}
 use Rattle.ir_program.specs.declared.handles.Ptr.{Ptr}
 use Rattle.ir_program.specs.declared.handles.Operation.{Operation}
 use Rattle.ir_program.specs.declared.handles.Value.{Value}
-use Rattle.ir_opts.proofs.decisions.BareOperations.{no_other_inside}
-use Rattle.ir_opts.proofs.decisions.Swapped.{bare_put, results_put, is_apart, none_used, swaps_in}
+use Rattle.ir_opts.proofs.DecisionsLemmas.BareOperations.{no_other_inside}
+use Rattle.ir_opts.proofs.DecisionsLemmas.Swapped.{bare_put, results_put, is_apart, none_used, swaps_in}
 use Rattle.ir_opts.proofs.decisions.replacing.put_in_place.Goals as goal
 
 pub insert_before-requires-clause-apart : goal.insert_before-requires-clause-apart

@@ -1,6 +1,6 @@
 use Rattle.std.proofs.Common.{◌≡◌, Some, slice_get, length, refl, ◌∙◌, arith}
 use Rattle.std.proofs.lemmas.Option.{slice_get_read}
-use Rattle.ir_opts.proofs.elimination.LostArguments.{count_still, unused_still, lost_next}
+use Rattle.ir_opts.proofs.EliminationLemmas.LostArguments.{count_still, unused_still, lost_next}
 use Rattle.ir_opts.proofs.elimination.arguments.lose_all_arguments.Goals as goal
 
 pub lose_arguments-requires-clause-count : goal.lose_arguments-requires-clause-count

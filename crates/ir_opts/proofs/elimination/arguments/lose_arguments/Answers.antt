@@ -4,7 +4,7 @@ use Rattle.ir_program.specs.Lent.{with_block_payload}
 use Rattle.ir_program.specs.Program.{BlockView}
 use Rattle.opt_dialect.specs.Masks.{marked}
 use Rattle.opt_trees.specs.Dialect.{drop}
-use Rattle.ir_opts.proofs.elimination.LostArguments.{lost_both}
+use Rattle.ir_opts.proofs.EliminationLemmas.LostArguments.{lost_both}
 use Rattle.ir_opts.proofs.elimination.arguments.lose_arguments.Goals as goal
 
 pub returns-then-has_block-clause-lost : goal.returns-then-has_block-clause-lost

@@ -2,8 +2,8 @@ use Rattle.std.proofs.Common.{◌≡◌, ◌<◌, ◌-◌, true, false, length, 
 use Rattle.std.proofs.lemmas.Option.{unwrap_or-slice_get}
 use Rattle.ir_program.specs.Program.{arguments_at}
 use Rattle.opt_dialect.specs.Masks.{marked}
-use Rattle.ir_opts.proofs.elimination.LostArguments.{begins, there_now, within_now, unused_now, one_goes, one_stays}
-use Rattle.ir_opts.proofs.elimination.Picking.{is_marked}
+use Rattle.ir_opts.proofs.EliminationLemmas.LostArguments.{begins, there_now, within_now, unused_now, one_goes, one_stays}
+use Rattle.ir_opts.proofs.EliminationLemmas.Picking.{is_marked}
 use Rattle.ir_opts.proofs.elimination.arguments.remove_arguments.Goals as goal
 
 pub loop-i-init : goal.loop-i-init

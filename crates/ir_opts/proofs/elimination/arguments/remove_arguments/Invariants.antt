@@ -1,6 +1,6 @@
 use Rattle.std.proofs.Common.{◌≡◌}
 use Rattle.ir_program.specs.Edits.{EditsBlock}
-use Rattle.ir_opts.proofs.elimination.LostArguments.{loses_arguments_from}
+use Rattle.ir_opts.proofs.EliminationLemmas.LostArguments.{loses_arguments_from}
 use Rattle.ir_opts.proofs.elimination.arguments.remove_arguments.Given as goal
 
 -- the marked arguments from here on are out

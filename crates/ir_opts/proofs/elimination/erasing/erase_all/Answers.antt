@@ -2,7 +2,7 @@ use Rattle.std.proofs.Common.{subst, refl, ◌∙◌, arith}
 use Rattle.std.proofs.lemmas.Option.{slice_get-get_or}
 use Rattle.ir_program.specs.Program.{no_handle}
 use Rattle.opt_inside.proofs.Around.{HasLists}
-use Rattle.ir_opts.proofs.elimination.Erased.{none_erased, apart_now, erased_next}
+use Rattle.ir_opts.proofs.EliminationLemmas.Erased.{none_erased, apart_now, erased_next}
 use Rattle.ir_opts.proofs.elimination.erasing.erase_all.Goals as goal
 
 pub loop-op-init : goal.loop-op-init

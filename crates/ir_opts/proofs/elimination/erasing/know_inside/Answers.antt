@@ -1,4 +1,4 @@
-use Rattle.ir_opts.proofs.elimination.Erased.{decided_by}
+use Rattle.ir_opts.proofs.EliminationLemmas.Erased.{decided_by}
 use Rattle.ir_opts.proofs.elimination.erasing.know_inside.Goals as goal
 
 pub returns : goal.returns

@@ -1,6 +1,6 @@
 use Rattle.std.proofs.Common.{◌≡◌, Some, slice_get, length, refl, ◌∙◌, arith}
 use Rattle.std.proofs.lemmas.Option.{slice_get_read}
-use Rattle.ir_opts.proofs.elimination.Lost.{there_still, count_still, lost_next}
+use Rattle.ir_opts.proofs.EliminationLemmas.Lost.{there_still, count_still, lost_next}
 use Rattle.ir_opts.proofs.elimination.operands.lose_all_operands.Goals as goal
 
 pub lose_operands-requires-clause-there : goal.lose_operands-requires-clause-there

@@ -4,7 +4,7 @@ use Rattle.ir_program.specs.Lent.{with_payload}
 use Rattle.ir_program.specs.Program.{OperationView}
 use Rattle.opt_dialect.specs.Masks.{marked}
 use Rattle.opt_trees.specs.Dialect.{drop}
-use Rattle.ir_opts.proofs.elimination.Lost.{lost_both}
+use Rattle.ir_opts.proofs.EliminationLemmas.Lost.{lost_both}
 use Rattle.ir_opts.proofs.elimination.operands.lose_operands.Goals as goal
 
 pub returns-clause-lost : goal.returns-clause-lost

@@ -1,7 +1,7 @@
 use Rattle.std.proofs.Common.{◌<◌, ◌-◌, false, length, refl, ◌∙◌, arith}
 use Rattle.std.proofs.lemmas.Option.{unwrap_or-slice_get}
 use Rattle.ir_program.specs.Rows.{operands_at}
-use Rattle.ir_opts.proofs.elimination.Lost.{begins, within_now, one_goes, one_stays}
+use Rattle.ir_opts.proofs.EliminationLemmas.Lost.{begins, within_now, one_goes, one_stays}
 use Rattle.ir_opts.proofs.elimination.operands.remove_operands.Goals as goal
 
 pub loop-i-init : goal.loop-i-init

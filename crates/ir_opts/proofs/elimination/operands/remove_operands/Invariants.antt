@@ -1,6 +1,6 @@
 use Rattle.std.proofs.Common.{◌≡◌}
 use Rattle.ir_program.specs.Edits.{EditsOperation}
-use Rattle.ir_opts.proofs.elimination.Lost.{loses_from}
+use Rattle.ir_opts.proofs.EliminationLemmas.Lost.{loses_from}
 use Rattle.ir_opts.proofs.elimination.operands.remove_operands.Given as goal
 
 -- the marked operands from here on are out

@@ -1,7 +1,7 @@
 use Rattle.std.proofs.Common.{◌≡◌, true, false, sym, ◌∙◌, subst}
 use Rattle.ir_trees.specs.Stands.{ProgramTree}
 use Rattle.ir_opts.specs.liveness.Plans.{IsDeadPlan}
-use Rattle.ir_opts.proofs.elimination.Outcomes.{KnowsGone, some_gone, nothing_made, something_made}
+use Rattle.ir_opts.proofs.EliminationLemmas.Outcomes.{KnowsGone, some_gone, nothing_made, something_made}
 use Rattle.ir_opts.proofs.elimination.pass.dce.Goals as goal
 
 pub returns-then-takes_nothing-clause-made : goal.returns-then-takes_nothing-clause-made

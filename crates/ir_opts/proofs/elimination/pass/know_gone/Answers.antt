@@ -1,4 +1,4 @@
-use Rattle.ir_opts.proofs.elimination.Gone.{gone_below, idle_same, same_idle}
+use Rattle.ir_opts.proofs.EliminationLemmas.Gone.{gone_below, idle_same, same_idle}
 use Rattle.ir_opts.proofs.elimination.pass.know_gone.Goals as goal
 
 pub returns-clause-below : goal.returns-clause-below

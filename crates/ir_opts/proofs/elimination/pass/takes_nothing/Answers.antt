@@ -1,7 +1,7 @@
 use Rattle.std.proofs.Common.{sym, ap, ◌∙◌}
 use Rattle.std.proofs.lemmas.Bool.{eqb-true, eq-eqb}
 use Rattle.std.specs.List.{list_any}
-use Rattle.ir_opts.proofs.elimination.Outcomes.{idle_then, idle_else}
+use Rattle.ir_opts.proofs.EliminationLemmas.Outcomes.{idle_then, idle_else}
 use Rattle.ir_opts.proofs.elimination.pass.takes_nothing.Goals as goal
 
 pub returns-then-is_empty : goal.returns-then-is_empty

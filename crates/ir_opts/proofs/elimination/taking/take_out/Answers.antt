@@ -15,8 +15,8 @@ use Rattle.opt_inside.proofs.Around.{HasLists}
 use Rattle.ir_opts.specs.declared.liveness.plan.LostOperands.{LostOperands}
 use Rattle.ir_opts.specs.declared.liveness.plan.DeadArguments.{DeadArguments}
 use Rattle.ir_opts.specs.elimination.Steps.{LosesListed, LosesArguments, DetachesPicked, DropsPicked, ErasesPicked, NamesNone}
-use Rattle.ir_opts.proofs.elimination.Thinned.{planned_there, planned_count, lost_linked, apart_live, bare_live, names_none, arguments_count, arguments_unused, thinned}
-use Rattle.ir_opts.proofs.elimination.Trees.{taken_out}
+use Rattle.ir_opts.proofs.EliminationLemmas.Thinned.{planned_there, planned_count, lost_linked, apart_live, bare_live, names_none, arguments_count, arguments_unused, thinned}
+use Rattle.ir_opts.proofs.EliminationLemmas.Trees.{taken_out}
 use Rattle.ir_opts.proofs.elimination.taking.take_out.Goals as goal
 
 pub lose_all_operands-requires-clause-there : goal.lose_all_operands-requires-clause-there

@@ -3,8 +3,8 @@ use Rattle.ir_opts.specs.chains.Chained.{IsJoiningPlan}
 use Rattle.ir_opts.specs.declared.chains.merge_values.StandIn.{StandIn}
 use Rattle.ir_opts.specs.declared.chains.merging.Join.{Join}
 use Rattle.opt_inside.specs.reach.Edges.{FitsEdgesFrom}
-use Rattle.ir_opts.proofs.joining.NoneJoined.{none_merged, none_circles}
-use Rattle.ir_opts.proofs.joining.PlanFound.{none_found, plan_found}
+use Rattle.ir_opts.proofs.JoiningLemmas.NoneJoined.{none_merged, none_circles}
+use Rattle.ir_opts.proofs.JoiningLemmas.PlanFound.{none_found, plan_found}
 use Rattle.ir_opts.proofs.joining.merge.merge_chains.Goals as goal
 
 pub returns-in_default-clause-merged : goal.returns-in_default-clause-merged

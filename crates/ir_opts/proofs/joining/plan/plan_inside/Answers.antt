@@ -1,7 +1,7 @@
 use Rattle.std.proofs.Common.{◌≡◌, List, [], Ok, sym, ap, ◌∙◌, subst}
 use Rattle.ir_opts.specs.chains.Chained.{AreChains, StartsSomewhere, IsJoiningPlan}
 use Rattle.ir_opts.specs.declared.chains.merging.Join.{Join}
-use Rattle.ir_opts.proofs.joining.SomeJoined.{empty_list, no_empty, none_joinable, some_joinable, begins_somewhere}
+use Rattle.ir_opts.proofs.JoiningLemmas.SomeJoined.{empty_list, no_empty, none_joinable, some_joinable, begins_somewhere}
 use Rattle.ir_opts.proofs.joining.plan.plan_inside.Goals as goal
 
 pub returns-then-is_empty-clause-found : goal.returns-then-is_empty-clause-found

@@ -2,8 +2,8 @@ use Rattle.std.proofs.Common.{◌≡◌, ℕ, ◌++◌, ◌∷◌, List, [], Opt
 use Rattle.opt_inside.specs.Numbered.{numbers_of}
 use Rattle.opt_rows.specs.declared.dead_problem.Operand.{Operand}
 use Rattle.ir_opts.specs.liveness.Problems.{IsOperandOf}
-use Rattle.ir_opts.proofs.liveness.Partway.{pushed_len, item_at, each_push}
-use Rattle.ir_opts.proofs.liveness.Plain.{not_branch}
+use Rattle.ir_opts.proofs.LivenessLemmas.Partway.{pushed_len, item_at, each_push}
+use Rattle.ir_opts.proofs.LivenessLemmas.Plain.{not_branch}
 use Rattle.ir_opts.proofs.liveness.candidates.operands_of.Goals as goal
 
 pub plain_operands-requires-clause-plain : goal.plain_operands-requires-clause-plain

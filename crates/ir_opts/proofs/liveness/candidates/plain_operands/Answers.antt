@@ -2,8 +2,8 @@ use Rattle.std.proofs.Common.{◌≡◌, ℕ, ◌++◌, ◌∷◌, List, [], Non
 use Rattle.opt_inside.specs.Numbered.{numbers_of}
 use Rattle.opt_rows.specs.declared.dead_problem.Operand.{Operand}
 use Rattle.ir_opts.specs.liveness.Problems.{IsOperandOf}
-use Rattle.ir_opts.proofs.liveness.Partway.{pushed_len, each_push}
-use Rattle.ir_opts.proofs.liveness.Plain.{branch_by}
+use Rattle.ir_opts.proofs.LivenessLemmas.Partway.{pushed_len, each_push}
+use Rattle.ir_opts.proofs.LivenessLemmas.Plain.{branch_by}
 use Rattle.ir_opts.proofs.liveness.candidates.plain_operands.Goals as goal
 
 pub loop-index-preserved : goal.loop-index-preserved

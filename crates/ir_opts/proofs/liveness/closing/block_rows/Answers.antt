@@ -1,6 +1,6 @@
 use Rattle.opt_inside.specs.Numbered.{numbers_of}
 use Rattle.ir_opts.specs.liveness.Problems.{IsBlockRow}
-use Rattle.ir_opts.proofs.liveness.Partway.{pushed_len, item_is, item_at, rows_step}
+use Rattle.ir_opts.proofs.LivenessLemmas.Partway.{pushed_len, item_is, item_at, rows_step}
 use Rattle.ir_opts.proofs.liveness.closing.block_rows.Goals as goal
 
 pub block_row-requires : goal.block_row-requires

@@ -5,10 +5,10 @@ use Rattle.ir_program.specs.Uses.{AreBlockUses}
 use Rattle.ir_program.specs.declared.handles.BasicBlock.{BasicBlock}
 use Rattle.ir_program.specs.declared.handles.Ptr.{Ptr}
 use Rattle.ir_program.specs.declared.handles.Use.{Use}
-use Rattle.ir_opts.proofs.liveness.Edges.{user_live}
-use Rattle.ir_opts.proofs.liveness.Ground.{successors_here}
+use Rattle.ir_opts.proofs.LivenessLemmas.Edges.{user_live}
+use Rattle.ir_opts.proofs.LivenessLemmas.Ground.{successors_here}
 use Rattle.opt_dialect.proofs.Removing.{the_some, payload_is}
-use Rattle.ir_opts.proofs.liveness.Partway.{at_middle, each_push, moved, ended}
+use Rattle.ir_opts.proofs.LivenessLemmas.Partway.{at_middle, each_push, moved, ended}
 use Rattle.ir_opts.proofs.liveness.closing.has_branches_only.Goals as goal
 
 pub payload-requires : goal.payload-requires

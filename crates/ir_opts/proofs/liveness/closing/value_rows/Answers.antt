@@ -1,5 +1,5 @@
 use Rattle.std.proofs.Common.{length, slice_get, sym, ap, ◌∙◌}
-use Rattle.ir_opts.proofs.liveness.Ground.{ok_then}
+use Rattle.ir_opts.proofs.LivenessLemmas.Ground.{ok_then}
 use Rattle.ir_opts.proofs.liveness.closing.value_rows.Goals as goal
 
 pub value_rows_by-requires-clause-blocks : goal.value_rows_by-requires-clause-blocks

@@ -1,6 +1,6 @@
 use Rattle.opt_inside.specs.Numbered.{numbers_of}
 use Rattle.ir_opts.specs.liveness.Problems.{TakesRow}
-use Rattle.ir_opts.proofs.liveness.Partway.{pushed_len, item_is, item_at, rows_step}
+use Rattle.ir_opts.proofs.LivenessLemmas.Partway.{pushed_len, item_is, item_at, rows_step}
 use Rattle.ir_opts.proofs.liveness.closing.value_rows_by.Goals as goal
 
 pub value_row-requires-clause-inside : goal.value_row-requires-clause-inside

@@ -1,11 +1,11 @@
 use Rattle.ir_trees.specs.Stands.{ProgramTree, StandsFor}
 use Rattle.opt_inside.specs.Numbered.{numbers_of}
 use Rattle.opt_inside.proofs.Around.{HasLists}
-use Rattle.ir_opts.proofs.liveness.Before.{parents_first}
-use Rattle.ir_opts.proofs.liveness.Ground.{Ground, Occurs, ok_then}
-use Rattle.ir_opts.proofs.liveness.InRange.{in_range}
-use Rattle.ir_opts.proofs.liveness.Answered.{answered}
-use Rattle.ir_opts.proofs.liveness.Going.{Solved}
+use Rattle.ir_opts.proofs.LivenessLemmas.Before.{parents_first}
+use Rattle.ir_opts.proofs.LivenessLemmas.Ground.{Ground, Occurs, ok_then}
+use Rattle.ir_opts.proofs.LivenessLemmas.InRange.{in_range}
+use Rattle.ir_opts.proofs.LivenessLemmas.Answered.{answered}
+use Rattle.ir_opts.proofs.LivenessLemmas.Going.{Solved}
 use Rattle.ir_opts.proofs.liveness.dead.plan_by_numbers.Goals as goal
 
 pub dead-requires : goal.dead-requires

@@ -1,7 +1,7 @@
 use Rattle.std.proofs.Common.{arith}
 use Rattle.std.proofs.lemmas.Option.{slice_get_within, slice_get-get_or}
 use Rattle.opt_inside.specs.Numbered.{numbers_of}
-use Rattle.ir_opts.proofs.liveness.Noting.{along_step, along_ends}
+use Rattle.ir_opts.proofs.LivenessLemmas.Noting.{along_step, along_ends}
 use Rattle.ir_opts.proofs.liveness.forwarding.forward_along.Goals as goal
 
 pub loop-place-preserved : goal.loop-place-preserved

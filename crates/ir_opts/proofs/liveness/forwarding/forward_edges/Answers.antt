@@ -2,7 +2,7 @@ use Rattle.std.proofs.Common.{sym, ◌∙◌, arith}
 use Rattle.ir_program.specs.Program.{operation_at}
 use Rattle.opt_inside.specs.Numbered.{numbers_of}
 use Rattle.opt_dialect.proofs.Removing.{the_some, payload_is}
-use Rattle.ir_opts.proofs.liveness.Noting.{edges_step, edges_end}
+use Rattle.ir_opts.proofs.LivenessLemmas.Noting.{edges_step, edges_end}
 use Rattle.ir_opts.proofs.liveness.forwarding.forward_edges.Goals as goal
 
 pub loop-edge-preserved : goal.loop-edge-preserved

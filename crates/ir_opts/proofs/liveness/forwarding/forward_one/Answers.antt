@@ -1,7 +1,7 @@
 use Rattle.std.proofs.Common.{◌≡◌, ◌<◌, length, refl, arith, rules}
 use Rattle.opt_inside.specs.Numbered.{numbers_of}
 use Rattle.ir_opts.specs.liveness.Problems.{HasNumberAt}
-use Rattle.ir_opts.proofs.liveness.Noting.{notes_put, notes_none, place_within}
+use Rattle.ir_opts.proofs.LivenessLemmas.Noting.{notes_put, notes_none, place_within}
 use Rattle.ir_opts.proofs.liveness.forwarding.forward_one.Goals as goal
 use Rattle.ir_opts.proofs.liveness.forwarding.forward_one.Goals.{else-place-argument_count-via-then-place-argument_count+else-index-len, else-place-argument_count-via-else-place-argument_count}
 

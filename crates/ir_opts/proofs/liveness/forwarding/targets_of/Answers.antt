@@ -1,7 +1,7 @@
 use Rattle.std.proofs.Common.{◌≡◌, ◌<◌, None, length, slice_get, rules, sym, ap, ◌∙◌, ⊎_elim, arith}
 use Rattle.std.specs.Prelude.{replicate}
 use Rattle.std.proofs.lemmas.Option.{slice_get_within}
-use Rattle.ir_opts.proofs.liveness.Noting.{no_targets}
+use Rattle.ir_opts.proofs.LivenessLemmas.Noting.{no_targets}
 use Rattle.ir_opts.proofs.liveness.forwarding.targets_of.Goals as goal
 
 pub returns-clause-found : goal.returns-clause-found

@@ -6,8 +6,8 @@ use Rattle.ir_program.specs.Uses.{AreUsesOf}
 use Rattle.ir_program.specs.declared.handles.IRNode.TheVariants.{Operation as OperationNode}
 use Rattle.ir_program.specs.declared.handles.Use.{Use}
 use Rattle.ir_program.specs.declared.handles.Value.{Value}
-use Rattle.ir_opts.proofs.liveness.Ground.{none_or}
-use Rattle.ir_opts.proofs.liveness.Partway.{at_middle, each_push, moved, ended}
+use Rattle.ir_opts.proofs.LivenessLemmas.Ground.{none_or}
+use Rattle.ir_opts.proofs.LivenessLemmas.Partway.{at_middle, each_push, moved, ended}
 use Rattle.ir_opts.proofs.liveness.keeping.is_pinned.Goals as goal
 use Rattle.ir_opts.proofs.liveness.keeping.is_pinned.Goals.{else-ne-via-then-ne+else-is_none, else-ne-via-else-ne}
 

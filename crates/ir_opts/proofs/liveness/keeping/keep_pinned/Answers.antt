@@ -1,7 +1,7 @@
 use Rattle.std.proofs.Common.{sym, subst}
 use Rattle.opt_inside.specs.Numbered.{numbers_of}
 use Rattle.ir_opts.specs.liveness.Problems.{IsPinned, KeepsIf}
-use Rattle.ir_opts.proofs.liveness.Kept.{keeps_if}
+use Rattle.ir_opts.proofs.LivenessLemmas.Kept.{keeps_if}
 use Rattle.ir_opts.proofs.liveness.keeping.keep_pinned.Goals as goal
 
 pub returns-in_ok-push : goal.returns-in_ok-push

@@ -4,8 +4,8 @@ use Rattle.ir_program.specs.Rows.{operands_at}
 use Rattle.ir_trees.specs.Searched.{Lists}
 use Rattle.opt_inside.specs.Numbered.{numbers_of}
 use Rattle.ir_opts.specs.liveness.Problems.{IsPinned}
-use Rattle.ir_opts.proofs.liveness.Kept.{ValuesBelow, keeps_step, below_none, below_split, below_up, below_here}
-use Rattle.ir_opts.proofs.liveness.Partway.{item_at}
+use Rattle.ir_opts.proofs.LivenessLemmas.Kept.{ValuesBelow, keeps_step, below_none, below_split, below_up, below_here}
+use Rattle.ir_opts.proofs.LivenessLemmas.Partway.{item_at}
 use Rattle.ir_opts.proofs.liveness.keeping.kept_definers.Goals as goal
 
 pub loop-value-init : goal.loop-value-init

@@ -3,7 +3,7 @@ use Rattle.ir_program.specs.Rows.{operands_at}
 use Rattle.ir_trees.specs.Searched.{Lists}
 use Rattle.opt_inside.specs.Numbered.{numbers_of}
 use Rattle.ir_opts.specs.liveness.Problems.{IsPinned, ListsDefiners}
-use Rattle.ir_opts.proofs.liveness.Kept.{ValuesBelow}
+use Rattle.ir_opts.proofs.LivenessLemmas.Kept.{ValuesBelow}
 use Rattle.ir_opts.proofs.liveness.keeping.kept_definers.Given as goal
 
 abbrev pub invariant-loop-value : goal.invariant-loop-value

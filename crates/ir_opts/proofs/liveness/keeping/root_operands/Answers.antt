@@ -3,7 +3,7 @@ use Rattle.std.proofs.lemmas.Option.{slice_get_within}
 use Rattle.ir_program.specs.Rows.{operands_at}
 use Rattle.opt_inside.specs.Numbered.{numbers_of}
 use Rattle.ir_opts.specs.liveness.Problems.{ListsDefiners}
-use Rattle.ir_opts.proofs.liveness.Kept.{ValuesBelow, keeps_if, keeps_step, below_split, below_up, below_here}
+use Rattle.ir_opts.proofs.LivenessLemmas.Kept.{ValuesBelow, keeps_if, keeps_step, below_split, below_up, below_here}
 use Rattle.ir_opts.proofs.liveness.keeping.root_operands.Goals as goal
 
 pub loop-index-preserved : goal.loop-index-preserved

@@ -1,4 +1,4 @@
-use Rattle.ir_opts.proofs.liveness.There.{inside_live, block_live, defined_live, definer_below}
+use Rattle.ir_opts.proofs.LivenessLemmas.There.{inside_live, block_live, defined_live, definer_below}
 use Rattle.ir_opts.proofs.liveness.problem.know_there.Goals as goal
 
 pub returns : goal.returns

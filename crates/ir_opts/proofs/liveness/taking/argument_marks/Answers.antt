@@ -5,8 +5,8 @@ use Rattle.ir_program.specs.Program.{arguments_at, value_in}
 use Rattle.ir_program.specs.declared.handles.Value.{Value}
 use Rattle.opt_inside.specs.Numbered.{numbers_of}
 use Rattle.ir_opts.specs.liveness.Taken.{HasMarkAt, ArgumentGoes}
-use Rattle.ir_opts.proofs.liveness.Marking.{number_marked, marked_number, value_within}
-use Rattle.ir_opts.proofs.liveness.Partway.{pushed_len, marks_push}
+use Rattle.ir_opts.proofs.LivenessLemmas.Marking.{number_marked, marked_number, value_within}
+use Rattle.ir_opts.proofs.LivenessLemmas.Partway.{pushed_len, marks_push}
 use Rattle.ir_opts.proofs.liveness.taking.argument_marks.Goals as goal
 
 pub loop-index-preserved : goal.loop-index-preserved

@@ -1,8 +1,8 @@
 use Rattle.std.proofs.Common.{length, ap, arith}
 use Rattle.opt_inside.specs.Numbered.{numbers_of}
 use Rattle.ir_opts.specs.liveness.Taken.{AreGoing, HasGoing, block_of}
-use Rattle.ir_opts.proofs.liveness.Partway.{item_at}
-use Rattle.ir_opts.proofs.liveness.Picking.{picks_step, picks_end}
+use Rattle.ir_opts.proofs.LivenessLemmas.Partway.{item_at}
+use Rattle.ir_opts.proofs.LivenessLemmas.Picking.{picks_step, picks_end}
 use Rattle.ir_opts.proofs.liveness.taking.dead_arguments.Goals as goal
 
 pub take_arguments-requires-clause-live : goal.take_arguments-requires-clause-live

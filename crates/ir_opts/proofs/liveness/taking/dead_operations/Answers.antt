@@ -1,8 +1,8 @@
 use Rattle.std.proofs.Common.{◌<◌, length, ◌≡◌, true, false, Some, length, slice_get, get_or, take, sym, ap, subst, ◌∙◌, arith}
 use Rattle.std.proofs.lemmas.Option.{same_Some, slice_get-get_or}
 use Rattle.ir_opts.specs.liveness.Taken.{ArePaired, Picks, same}
-use Rattle.ir_opts.proofs.liveness.Partway.{item_at}
-use Rattle.ir_opts.proofs.liveness.Picking.{picks_begin, picks_step, picks_end}
+use Rattle.ir_opts.proofs.LivenessLemmas.Partway.{item_at}
+use Rattle.ir_opts.proofs.LivenessLemmas.Picking.{picks_begin, picks_step, picks_end}
 use Rattle.ir_opts.proofs.liveness.taking.dead_operations.Goals as goal
 
 pub loop-index-init : goal.loop-index-init

@@ -1,5 +1,5 @@
 use Rattle.std.proofs.Common.{refl, sym, ◌∙◌}
-use Rattle.ir_opts.proofs.liveness.Marking.{any_marked}
+use Rattle.ir_opts.proofs.LivenessLemmas.Marking.{any_marked}
 use Rattle.ir_opts.proofs.liveness.taking.has_mark.Goals as goal
 
 pub returns : goal.returns

@@ -1,7 +1,7 @@
 use Rattle.std.proofs.Common.{◌≡◌, ◌<◌, ◌+◌, ◌⊎◌, ⊎_elim, ◌∙◌, ℕ, Some, slice_get, true, true≢false, refl, sym, ap, subst, arith}
 use Rattle.std.proofs.lemmas.Option.{same_Some, slice_get_within}
 use Rattle.opt_rows.specs.declared.dead_problem.Operand.{Operand}
-use Rattle.ir_opts.proofs.liveness.Partway.{item_at}
+use Rattle.ir_opts.proofs.LivenessLemmas.Partway.{item_at}
 use Rattle.ir_opts.proofs.liveness.taking.loses_some.Goals as goal
 
 pub loop-operand-preserved : goal.loop-operand-preserved

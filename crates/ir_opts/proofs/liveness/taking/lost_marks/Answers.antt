@@ -3,7 +3,7 @@ use Rattle.std.specs.Prelude.{◌↔◌}
 use Rattle.std.proofs.lemmas.Option.{same_Some, slice_get_within}
 use Rattle.opt_rows.specs.declared.dead_problem.Operand.{Operand}
 use Rattle.ir_opts.specs.liveness.Taken.{HasMarkAt, OperandGoes}
-use Rattle.ir_opts.proofs.liveness.Partway.{pushed_len, item_at, marks_push}
+use Rattle.ir_opts.proofs.LivenessLemmas.Partway.{pushed_len, item_at, marks_push}
 use Rattle.ir_opts.proofs.liveness.taking.lost_marks.Goals as goal
 
 pub loop-operand-preserved : goal.loop-operand-preserved

@@ -4,9 +4,9 @@ use Rattle.std.specs.Prelude.{slice_get}
 use Rattle.opt_rows.specs.DeadCandidates.{Candidate, operands_of}
 use Rattle.opt_inside.specs.Numbered.{numbers_of}
 use Rattle.ir_opts.specs.liveness.Taken.{AreLost, IsLoss, LosesSome, OperandGoes, op_of}
-use Rattle.ir_opts.proofs.liveness.Ground.{at_index}
-use Rattle.ir_opts.proofs.liveness.Partway.{item_at}
-use Rattle.ir_opts.proofs.liveness.Picking.{picks_step, picks_end}
+use Rattle.ir_opts.proofs.LivenessLemmas.Ground.{at_index}
+use Rattle.ir_opts.proofs.LivenessLemmas.Partway.{item_at}
+use Rattle.ir_opts.proofs.LivenessLemmas.Picking.{picks_step, picks_end}
 use Rattle.ir_opts.proofs.liveness.taking.lost_operands.Goals as goal
 
 pub loop-index-preserved : goal.loop-index-preserved

@@ -2,7 +2,7 @@ use Rattle.std.proofs.Common.{◌≡◌, inl, inr, true, refl, sym, subst, arith
 use Rattle.std.proofs.lemmas.Option.{slice_get_within}
 use Rattle.ir_program.specs.Program.{arguments_at}
 use Rattle.ir_opts.specs.liveness.Taken.{HasMarkAt}
-use Rattle.ir_opts.proofs.liveness.Marking.{value_there}
+use Rattle.ir_opts.proofs.LivenessLemmas.Marking.{value_there}
 use Rattle.ir_opts.proofs.liveness.taking.take_arguments.Goals as goal
 
 pub returns-in_ok-push : goal.returns-in_ok-push

@@ -1,8 +1,8 @@
 -- What is decided, by the facts that are kept by numbers.
 use Rattle.std.proofs.Common.{◌≡◌, false, true, sym, ◌∙◌}
 use Rattle.opt_inside.specs.Numbered.{numbers_of}
-use Rattle.ir_opts.proofs.propagation.Decided.{placed, numbered_there, lacking, decided, types_known}
-use Rattle.ir_opts.proofs.propagation.Definitions.{are_defined}
+use Rattle.ir_opts.proofs.PropagationLemmas.Decided.{placed, numbered_there, lacking, decided, types_known}
+use Rattle.ir_opts.proofs.PropagationLemmas.Definitions.{are_defined}
 use Rattle.ir_opts.proofs.propagation.propagating.decide_inside.Goals as goal
 
 pub is_lacking-requires : goal.is_lacking-requires

@@ -1,6 +1,6 @@
 -- What is put in of an empty list.
-use Rattle.ir_opts.proofs.propagation.Definitions.{are_defined}
-use Rattle.ir_opts.proofs.propagation.Propagated.{nothing_put}
+use Rattle.ir_opts.proofs.PropagationLemmas.Definitions.{are_defined}
+use Rattle.ir_opts.proofs.PropagationLemmas.Propagated.{nothing_put}
 use Rattle.ir_opts.proofs.propagation.propagating.know_nothing_put.Goals as goal
 
 pub returns : goal.returns

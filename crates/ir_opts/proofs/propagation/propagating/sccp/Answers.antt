@@ -9,7 +9,7 @@ use Rattle.ir_program.proofs.made.Frames.{on_err}
 use Rattle.opt_trees.specs.Occurrences.{Has}
 use Rattle.ir_opts.specs.propagation.Made.{PutsList}
 use Rattle.ir_opts.specs.propagation.Sccp.{IsDecided}
-use Rattle.ir_opts.proofs.propagation.Propagated.{nothing_in, unchanged_in, changed_in, part_in, empty_is, not_empty}
+use Rattle.ir_opts.proofs.PropagationLemmas.Propagated.{nothing_in, unchanged_in, changed_in, part_in, empty_is, not_empty}
 use Rattle.ir_opts.proofs.propagation.propagating.sccp.Goals as goal
 
 pub returns-in_err-made-clause-part : goal.returns-in_err-made-clause-part

@@ -1,7 +1,7 @@
 -- Nothing is inside an operation without regions.
 use Rattle.std.proofs.Common.{ap, ◌∙◌}
 use Rattle.ir_program.specs.declared.handles.DefiningEntity.TheVariants.{Op as ByOp}
-use Rattle.ir_opts.proofs.propagation.BareOperations.{no_other_inside, no_block_inside}
+use Rattle.ir_opts.proofs.PropagationLemmas.BareOperations.{no_other_inside, no_block_inside}
 use Rattle.ir_opts.proofs.propagation.putting.put_at_definer.Goals as goal
 
 pub insert_before-requires-clause-apart : goal.insert_before-requires-clause-apart

@@ -9,9 +9,9 @@ use Rattle.ir_program.specs.Adds.{SomeCame}
 use Rattle.ir_program.proofs.made.Frames.{on_err}
 use Rattle.ir_trees.proofs.ListEdited.{AreOrderly}
 use Rattle.ir_opts.specs.propagation.Made.{PutsList}
-use Rattle.ir_opts.proofs.propagation.Definitions.{AreDefined, are_defined}
-use Rattle.ir_opts.proofs.propagation.PlacedLists.{index_has}
-use Rattle.ir_opts.proofs.propagation.PuttingLoop.{begins, can_put, goes_on, stays, ends}
+use Rattle.ir_opts.proofs.PropagationLemmas.Definitions.{AreDefined, are_defined}
+use Rattle.ir_opts.proofs.PropagationLemmas.PlacedLists.{index_has}
+use Rattle.ir_opts.proofs.PropagationLemmas.PuttingLoop.{begins, can_put, goes_on, stays, ends}
 use Rattle.ir_opts.proofs.propagation.putting.put_constants.Goals as goal
 
 pub loop-one-init : goal.loop-one-init

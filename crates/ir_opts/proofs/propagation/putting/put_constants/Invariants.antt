@@ -1,6 +1,6 @@
 -- The constants before the index are put in.
 use Rattle.std.proofs.Common.{◌≡◌, ◌+◌}
-use Rattle.ir_opts.proofs.propagation.PuttingLoop.{IsPutting}
+use Rattle.ir_opts.proofs.PropagationLemmas.PuttingLoop.{IsPutting}
 use Rattle.ir_opts.proofs.propagation.putting.put_constants.Given as goal
 
 abbrev pub invariant-loop-one : goal.invariant-loop-one

@@ -3,7 +3,7 @@ use Rattle.std.proofs.Common.{◌≡◌, Some, [], ◌∷◌, refl, sym, subst}
 use Rattle.ir_program.specs.Program.{type_at, type_in, value_in}
 use Rattle.ir_program.specs.Definers.{values_at}
 use Rattle.ir_opts.specs.propagation.Placed.{DefinerIsPlaced, PutsAtDefiner}
-use Rattle.ir_opts.proofs.propagation.OneConstant.{place_kept, still_live, one_put}
+use Rattle.ir_opts.proofs.PropagationLemmas.OneConstant.{place_kept, still_live, one_put}
 use Rattle.ir_opts.proofs.propagation.putting.put_one.Goals as goal
 
 pub put_at_definer-requires-clause-place : goal.put_at_definer-requires-clause-place

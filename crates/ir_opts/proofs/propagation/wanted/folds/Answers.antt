@@ -1,6 +1,6 @@
 -- The operation's block and what it carries.
 use Rattle.std.proofs.Common.{sym, ◌∙◌}
-use Rattle.ir_opts.proofs.propagation.WantedAt.{not_at, folds, folds_runs}
+use Rattle.ir_opts.proofs.PropagationLemmas.WantedAt.{not_at, folds, folds_runs}
 use Rattle.ir_opts.proofs.propagation.wanted.folds.Goals as goal
 
 pub returns-in_default : goal.returns-in_default

@@ -2,7 +2,7 @@
 use Rattle.std.proofs.Common.{◌∙◌, arith}
 use Rattle.std.proofs.lemmas.Option.{slice_get_within}
 use Rattle.ir_program.specs.Rows.{operands_at}
-use Rattle.ir_opts.proofs.propagation.WantedAt.{none_further, not_at}
+use Rattle.ir_opts.proofs.PropagationLemmas.WantedAt.{none_further, not_at}
 use Rattle.ir_opts.proofs.propagation.wanted.has_undetermined.Goals as goal
 
 pub loop-i-preserved : goal.loop-i-preserved

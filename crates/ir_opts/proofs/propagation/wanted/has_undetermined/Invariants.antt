@@ -4,7 +4,7 @@ use Rattle.ir_trees.specs.Stands.{by_handle}
 use Rattle.opt_inside.specs.facts.ByNumber.{AreFactsBy}
 use Rattle.opt_inside.specs.Numbered.{numbers_of}
 use Rattle.opt_trees.specs.Facts.{Facts}
-use Rattle.ir_opts.proofs.propagation.WantedAt.{NoneBefore}
+use Rattle.ir_opts.proofs.PropagationLemmas.WantedAt.{NoneBefore}
 use Rattle.ir_opts.proofs.propagation.wanted.has_undetermined.Given as goal
 
 abbrev pub invariant-loop-i : goal.invariant-loop-i

@@ -1,5 +1,5 @@
 -- The region of the block, and the operation that holds it.
-use Rattle.ir_opts.proofs.propagation.WantedAt.{ssa_is, not_in_ssa}
+use Rattle.ir_opts.proofs.PropagationLemmas.WantedAt.{ssa_is, not_in_ssa}
 use Rattle.ir_opts.proofs.propagation.wanted.is_in_ssa.Goals as goal
 
 pub returns-in-Some : goal.returns-in-Some

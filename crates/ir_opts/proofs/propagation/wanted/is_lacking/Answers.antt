@@ -5,8 +5,8 @@ use Rattle.std.proofs.lemmas.Option.{slice_get_within}
 use Rattle.ir_program.specs.Program.{no_handle}
 use Rattle.opt_inside.specs.Numbered.{numbers_of}
 use Rattle.ir_opts.specs.propagation.Wanted.{is_determined}
-use Rattle.ir_opts.proofs.propagation.MadeLists.{element}
-use Rattle.ir_opts.proofs.propagation.WantedAt.{not_at, none_lacks_further, none_undetermined}
+use Rattle.ir_opts.proofs.PropagationLemmas.MadeLists.{element}
+use Rattle.ir_opts.proofs.PropagationLemmas.WantedAt.{not_at, none_lacks_further, none_undetermined}
 use Rattle.ir_opts.proofs.propagation.wanted.is_lacking.Goals as goal
 
 pub loop-op-preserved : goal.loop-op-preserved

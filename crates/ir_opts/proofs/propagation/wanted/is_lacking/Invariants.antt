@@ -3,7 +3,7 @@ use Rattle.ir_trees.specs.Stands.{by_handle}
 use Rattle.opt_inside.specs.facts.ByNumber.{AreFactsBy}
 use Rattle.opt_inside.specs.Numbered.{numbers_of}
 use Rattle.opt_trees.specs.Facts.{Facts}
-use Rattle.ir_opts.proofs.propagation.WantedAt.{NoneLacks}
+use Rattle.ir_opts.proofs.PropagationLemmas.WantedAt.{NoneLacks}
 use Rattle.ir_opts.proofs.propagation.wanted.is_lacking.Given as goal
 
 abbrev pub invariant-loop-op : goal.invariant-loop-op

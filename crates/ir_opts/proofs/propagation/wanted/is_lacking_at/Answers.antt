@@ -1,6 +1,6 @@
 -- What it takes to lack an operand, one after the other.
 use Rattle.std.proofs.Common.{◌≡◌, true, false, sym, ◌∙◌}
-use Rattle.ir_opts.proofs.propagation.WantedAt.{held, not_at, lacks, lacks_runs, lacks_ssa, lacks_undetermined}
+use Rattle.ir_opts.proofs.PropagationLemmas.WantedAt.{held, not_at, lacks, lacks_runs, lacks_ssa, lacks_undetermined}
 use Rattle.ir_opts.proofs.propagation.wanted.is_lacking_at.Goals as goal
 
 pub returns-in_default : goal.returns-in_default

@@ -4,7 +4,7 @@ use Rattle.std.specs.List.{position}
 use Rattle.ir_program.specs.declared.handles.Value.{Value}
 use Rattle.opt_rows.specs.declared.known.Known.TheVariants.{Any}
 use Rattle.opt_inside.specs.Numbered.{numbers_of}
-use Rattle.ir_opts.proofs.propagation.Lookups.{known_found, known_not_found, value_tests}
+use Rattle.ir_opts.proofs.PropagationLemmas.Lookups.{known_found, known_not_found, value_tests}
 use Rattle.ir_opts.proofs.propagation.wanted.known_of.Goals as goal
 
 pub returns-in-Some : goal.returns-in-Some

@@ -6,7 +6,7 @@ use Rattle.ir_program.specs.declared.handles.Value.{Value}
 use Rattle.ir_program.specs.declared.handles.DefiningEntity.TheVariants.{Op as ByOp}
 use Rattle.opt_rows.specs.declared.known.Known.TheVariants.{Any}
 use Rattle.ir_opts.specs.propagation.Wanted.{AreMade}
-use Rattle.ir_opts.proofs.propagation.MadeLists.{element, value_skipped, value_added}
+use Rattle.ir_opts.proofs.PropagationLemmas.MadeLists.{element, value_skipped, value_added}
 use Rattle.ir_opts.proofs.propagation.wanted.made_constants.Goals as goal
 use Rattle.ir_opts.proofs.propagation.wanted.made_constants.Goals.{in-Some+in_ok-push, in_default}
 

@@ -1,7 +1,7 @@
 -- The number of a block leads to its mark.
 use Rattle.std.proofs.Common.{Bool, List, false, slice_get, unwrap_or, sym, ap, ◌∙◌}
 use Rattle.opt_inside.specs.Numbered.{numbers_of}
-use Rattle.ir_opts.proofs.propagation.Lookups.{runs_found, runs_not_found}
+use Rattle.ir_opts.proofs.PropagationLemmas.Lookups.{runs_found, runs_not_found}
 use Rattle.ir_opts.proofs.propagation.wanted.runs.Goals as goal
 
 pub returns-in-Some : goal.returns-in-Some

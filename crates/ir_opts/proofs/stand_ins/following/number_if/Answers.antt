@@ -1,4 +1,4 @@
-use Rattle.ir_opts.proofs.stand_ins.FollowingLemmas.{number_of_some, number_of_none}
+use Rattle.ir_opts.proofs.StandInsLemmas.FollowingLemmas.{number_of_some, number_of_none}
 use Rattle.ir_opts.proofs.stand_ins.following.number_if.Goals as goal
 
 pub returns-in-Some : goal.returns-in-Some

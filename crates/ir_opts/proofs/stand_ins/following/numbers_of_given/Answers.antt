@@ -1,6 +1,6 @@
 use Rattle.std.proofs.Common.{None, arith}
 use Rattle.std.proofs.lemmas.Option.{slice_get-get_or}
-use Rattle.ir_opts.proofs.stand_ins.FollowingLemmas.{no_numbers, numbers_more, numbers_all}
+use Rattle.ir_opts.proofs.StandInsLemmas.FollowingLemmas.{no_numbers, numbers_more, numbers_all}
 use Rattle.ir_opts.proofs.stand_ins.following.numbers_of_given.Goals as goal
 
 pub loop-value-init : goal.loop-value-init

@@ -1,4 +1,4 @@
-use Rattle.ir_opts.proofs.stand_ins.FollowingLemmas.{AreNumbersUpTo}
+use Rattle.ir_opts.proofs.StandInsLemmas.FollowingLemmas.{AreNumbersUpTo}
 use Rattle.ir_opts.proofs.stand_ins.following.numbers_of_given.Given as goal
 
 -- the numbers of the values before this one

@@ -1,6 +1,6 @@
 use Rattle.std.proofs.Common.{None, Some, sym, ap, ◌∙◌, get_or, arith}
 use Rattle.std.proofs.lemmas.Option.{slice_get-get_or}
-use Rattle.ir_opts.proofs.stand_ins.FollowingLemmas.{some_there, none_there, none_followed, followed_more, followed_past, followed_all}
+use Rattle.ir_opts.proofs.StandInsLemmas.FollowingLemmas.{some_there, none_there, none_followed, followed_more, followed_past, followed_all}
 use Rattle.ir_opts.proofs.stand_ins.following.stand_ins_at_ends.Goals as goal
 use Rattle.ir_opts.proofs.stand_ins.following.stand_ins_at_ends.Goals.{then-is_some+in_ok-push, else-is_some}
 

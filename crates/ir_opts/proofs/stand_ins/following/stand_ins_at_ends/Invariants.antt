@@ -1,4 +1,4 @@
-use Rattle.ir_opts.proofs.stand_ins.FollowingLemmas.{AreFollowedUpTo}
+use Rattle.ir_opts.proofs.StandInsLemmas.FollowingLemmas.{AreFollowedUpTo}
 use Rattle.ir_opts.proofs.stand_ins.following.stand_ins_at_ends.Given as goal
 
 -- what stands for the values before this one

@@ -2,7 +2,7 @@ use Rattle.std.proofs.Common.{◌≡◌, None, replicate, ◌∙◌, rules, arit
 use Rattle.std.proofs.lemmas.Option.{slice_get-get_or}
 use Rattle.ir_program.specs.Program.{no_handle}
 use Rattle.ir_opts.specs.declared.chains.merging.Join.{Join}
-use Rattle.ir_opts.proofs.stand_ins.ForwardingLemmas.{forwarded_is, forwarded_none, forwarded_more, forwarded_all, block_there, branch_there}
+use Rattle.ir_opts.proofs.StandInsLemmas.ForwardingLemmas.{forwarded_is, forwarded_none, forwarded_more, forwarded_all, block_there, branch_there}
 use Rattle.ir_opts.proofs.stand_ins.forwarding.forwarded_values.Goals as goal
 
 -- a step that is never taken

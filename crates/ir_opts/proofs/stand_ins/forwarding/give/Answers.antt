@@ -1,5 +1,5 @@
 use Rattle.std.proofs.Common.{arith}
-use Rattle.ir_opts.proofs.stand_ins.TableLemmas.{in_length, one_put}
+use Rattle.ir_opts.proofs.StandInsLemmas.TableLemmas.{in_length, one_put}
 use Rattle.ir_opts.proofs.stand_ins.forwarding.give.Goals as goal
 
 pub index_mut-requires : goal.index_mut-requires

@@ -1,6 +1,6 @@
 use Rattle.std.proofs.Common.{ap, arith}
 use Rattle.std.proofs.lemmas.Option.{slice_get-get_or}
-use Rattle.ir_opts.proofs.stand_ins.ForwardingLemmas.{paired_none, paired_more, paired_past, paired_all}
+use Rattle.ir_opts.proofs.StandInsLemmas.ForwardingLemmas.{paired_none, paired_more, paired_past, paired_all}
 use Rattle.ir_opts.proofs.stand_ins.forwarding.give_arguments.Goals as goal
 use Rattle.ir_opts.proofs.stand_ins.forwarding.give_arguments.Goals.{then-index-count, else-index-count}
 

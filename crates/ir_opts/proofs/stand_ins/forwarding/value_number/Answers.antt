@@ -1,5 +1,5 @@
 use Rattle.std.proofs.Common.{rules}
-use Rattle.ir_opts.proofs.chains.NextBlock.{number_is}
+use Rattle.ir_opts.proofs.ChainsLemmas.NextBlock.{number_is}
 use Rattle.ir_opts.proofs.stand_ins.forwarding.value_number.Goals as goal
 
 pub returns : goal.returns

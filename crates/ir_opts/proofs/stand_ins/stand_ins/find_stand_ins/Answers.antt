@@ -1,6 +1,6 @@
 use Rattle.std.proofs.Common.{◌≡◌, ℕ, List, Option, length, slice_get, Vec, Global, sym, ap, ◌∙◌, subst, arith}
 use Rattle.std.specs.Prelude.{MatchOption}
-use Rattle.ir_opts.proofs.chains.NextJoinable.{Occurs}
+use Rattle.ir_opts.proofs.ChainsLemmas.NextJoinable.{Occurs}
 use Rattle.ir_opts.specs.chains.Chained.{IsJoiningPlan}
 use Rattle.ir_opts.specs.declared.chains.merge_values.StandIn.{StandIn}
 use Rattle.opt_inside.proofs.Around.{HasLists}
@@ -9,9 +9,9 @@ use Rattle.opt_rows.specs.Chains.{StepsAlong}
 use Rattle.opt_solvers.specs.ChainsFollowed.{AreFinals, AreLinksInRange}
 use Rattle.ir_opts.specs.stand_ins.Forwarded.{IsForwarded}
 use Rattle.ir_opts.specs.stand_ins.Tables.{IsGivenTable, AreNumbersOf, AreFollowed}
-use Rattle.ir_opts.proofs.stand_ins.FollowedLemmas.{end_in_range, steps_in_range}
-use Rattle.ir_opts.proofs.stand_ins.StandInLemmas.{KnowsValues, circle_found, plan_found}
-use Rattle.ir_opts.proofs.stand_ins.TableLemmas.{in_length}
+use Rattle.ir_opts.proofs.StandInsLemmas.FollowedLemmas.{end_in_range, steps_in_range}
+use Rattle.ir_opts.proofs.StandInsLemmas.StandInLemmas.{KnowsValues, circle_found, plan_found}
+use Rattle.ir_opts.proofs.StandInsLemmas.TableLemmas.{in_length}
 use Rattle.ir_opts.proofs.stand_ins.stand_ins.find_stand_ins.Goals as goal
 
 pub forwarded_values-requires-clause-can : goal.forwarded_values-requires-clause-can

@@ -1,4 +1,4 @@
-use Rattle.ir_opts.proofs.unreached.RemovedErased.{decided_within}
+use Rattle.ir_opts.proofs.UnreachedLemmas.RemovedErased.{decided_within}
 use Rattle.ir_opts.proofs.unreached.remove.know_within.Goals as goal
 
 pub returns : goal.returns

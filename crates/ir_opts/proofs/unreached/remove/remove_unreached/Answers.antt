@@ -11,8 +11,8 @@ use Rattle.opt_inside.proofs.Around.{HasLists}
 use Rattle.opt_inside.specs.reach.Starts.{IsStartIn}
 use Rattle.ir_opts.specs.unreached.Refusals.{AreUnreached, LosesNone, LosesUses}
 use Rattle.ir_opts.specs.unreached.Removed.{is_listed, ArePickedApart, NamesWithin, ErasesPickedBlocks, TakesWithin}
-use Rattle.ir_opts.proofs.unreached.RemovedEnds.{unchanged_removed, none_unreached, some_unreached, all_removed, emptied, not_emptied}
-use Rattle.ir_opts.proofs.unreached.RemovedLocal.{edges_alike, edges_kept}
+use Rattle.ir_opts.proofs.UnreachedLemmas.RemovedEnds.{unchanged_removed, none_unreached, some_unreached, all_removed, emptied, not_emptied}
+use Rattle.ir_opts.proofs.UnreachedLemmas.RemovedLocal.{edges_alike, edges_kept}
 use Rattle.ir_opts.proofs.unreached.remove.remove_unreached.Goals as goal
 
 pub returns-then-is_empty-clause-removed : goal.returns-then-is_empty-clause-removed

@@ -2,8 +2,8 @@ use Rattle.std.proofs.Common.{length, sym, ap, ◌∙◌, subst}
 use Rattle.ir_trees.specs.Searched.{AreDistinct}
 use Rattle.opt_inside.specs.Numbered.{numbers_of}
 use Rattle.opt_inside.proofs.Around.{HasLists}
-use Rattle.opt_inside.proofs.reach.Ends.{if_ok}
-use Rattle.ir_opts.proofs.unreached.RemovedFates.{finds_if}
+use Rattle.opt_inside.proofs.ReachLemmas.Ends.{if_ok}
+use Rattle.ir_opts.proofs.UnreachedLemmas.RemovedFates.{finds_if}
 use Rattle.ir_opts.proofs.unreached.remove.unreached_blocks.Goals as goal
 
 pub unreached_among-requires-clause-once : goal.unreached_among-requires-clause-once

@@ -12,10 +12,10 @@ use Rattle.opt_inside.proofs.Around.{HasLists}
 use Rattle.opt_inside.proofs.Added.{HasValues}
 use Rattle.ir_opts.specs.unreached.Refusals.{AreUnreached}
 use Rattle.ir_opts.specs.unreached.Removed.{is_listed, IsTakenOutsideBlocks, IsWithinPickedBlocks, TakesWithin}
-use Rattle.ir_opts.proofs.unreached.RemovedKept.{cut_root}
-use Rattle.ir_opts.proofs.unreached.RemovedLoses.{loses_use, loses_none, cut_is}
-use Rattle.opt_inside.proofs.reach.Occurs.{Occurs}
-use Rattle.ir_opts.proofs.unreached.RemovedFound.{are_unreached, numbered_live, live_numbered}
+use Rattle.ir_opts.proofs.UnreachedLemmas.RemovedKept.{cut_root}
+use Rattle.ir_opts.proofs.UnreachedLemmas.RemovedLoses.{loses_use, loses_none, cut_is}
+use Rattle.opt_inside.proofs.ReachLemmas.Occurs.{Occurs}
+use Rattle.ir_opts.proofs.UnreachedLemmas.RemovedFound.{are_unreached, numbered_live, live_numbered}
 use Rattle.ir_opts.proofs.unreached.remove.unreached_inside.Goals as goal
 
 pub is_taken_outside-requires-clause-there : goal.is_taken_outside-requires-clause-there

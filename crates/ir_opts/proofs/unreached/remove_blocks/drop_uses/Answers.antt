@@ -2,7 +2,7 @@ use Rattle.std.proofs.Common.{IsSome, get_or, refl, sym, subst, ◌∙◌, arith
 use Rattle.std.proofs.lemmas.Option.{slice_get-get_or}
 use Rattle.ir_program.specs.Program.{no_handle, block_at}
 use Rattle.ir_opts.specs.unreached.Removed.{DecidesInsideBlock}
-use Rattle.ir_opts.proofs.unreached.RemovedDropped.{none_dropped, live_now, dropped_next}
+use Rattle.ir_opts.proofs.UnreachedLemmas.RemovedDropped.{none_dropped, live_now, dropped_next}
 use Rattle.ir_opts.proofs.unreached.remove_blocks.drop_uses.Goals as goal
 
 pub know_inside-requires : goal.know_inside-requires

@@ -3,7 +3,7 @@ use Rattle.std.proofs.lemmas.Option.{slice_get-get_or}
 use Rattle.ir_program.specs.Program.{no_handle, block_at}
 use Rattle.opt_inside.proofs.Around.{HasLists}
 use Rattle.ir_opts.specs.unreached.Removed.{DecidesInsideBlock}
-use Rattle.ir_opts.proofs.unreached.RemovedErased.{none_erased, apart_now, still_there, erased_next}
+use Rattle.ir_opts.proofs.UnreachedLemmas.RemovedErased.{none_erased, apart_now, still_there, erased_next}
 use Rattle.ir_opts.proofs.unreached.remove_blocks.erase_all.Goals as goal
 
 pub loop-block-init : goal.loop-block-init

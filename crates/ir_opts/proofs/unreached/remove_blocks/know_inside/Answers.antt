@@ -1,4 +1,4 @@
-use Rattle.ir_opts.proofs.unreached.RemovedErased.{decided_by}
+use Rattle.ir_opts.proofs.UnreachedLemmas.RemovedErased.{decided_by}
 use Rattle.ir_opts.proofs.unreached.remove_blocks.know_inside.Goals as goal
 
 pub returns : goal.returns

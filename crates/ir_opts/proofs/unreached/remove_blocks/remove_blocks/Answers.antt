@@ -1,6 +1,6 @@
 use Rattle.ir_opts.specs.unreached.Removed.{is_listed}
 use Rattle.ir_program.specs.declared.handles.IRNode.TheVariants.{BasicBlock as BlockNode}
-use Rattle.ir_opts.proofs.unreached.RemovedBoth.{live_kept, still_apart, none_named, both_erase}
+use Rattle.ir_opts.proofs.UnreachedLemmas.RemovedBoth.{live_kept, still_apart, none_named, both_erase}
 use Rattle.ir_opts.proofs.unreached.remove_blocks.remove_blocks.Goals as goal
 
 pub erase_all-requires-clause-there : goal.erase_all-requires-clause-there

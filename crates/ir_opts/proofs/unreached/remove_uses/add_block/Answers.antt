@@ -1,8 +1,8 @@
 use Rattle.std.proofs.Common.{◌≡◌, ◌∙◌}
 use Rattle.ir_program.specs.Preorder.{nodes_inside}
 use Rattle.ir_program.specs.declared.handles.IRNode.TheVariants.{BasicBlock as BlockNode}
-use Rattle.opt_inside.proofs.reach.Lists.{moved}
-use Rattle.ir_opts.proofs.unreached.RemovedUses.{begun, node_gained, block_gained, whole}
+use Rattle.opt_inside.proofs.ReachLemmas.Lists.{moved}
+use Rattle.ir_opts.proofs.UnreachedLemmas.RemovedUses.{begun, node_gained, block_gained, whole}
 use Rattle.ir_opts.proofs.unreached.remove_uses.add_block.Goals as goal
 
 pub loop-node-init : goal.loop-node-init

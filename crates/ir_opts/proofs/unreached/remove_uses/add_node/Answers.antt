@@ -1,6 +1,6 @@
 use Rattle.ir_program.specs.contracts.handles.IRNodePartialEq.TheImpl.{eq-value}
-use Rattle.ir_opts.proofs.unreached.RemovedNodes.{node_same}
-use Rattle.ir_opts.proofs.unreached.RemovedUses.{gained}
+use Rattle.ir_opts.proofs.UnreachedLemmas.RemovedNodes.{node_same}
+use Rattle.ir_opts.proofs.UnreachedLemmas.RemovedUses.{gained}
 use Rattle.ir_opts.proofs.unreached.remove_uses.add_node.Goals as goal
 
 pub returns : goal.returns

@@ -1,6 +1,6 @@
 use Rattle.ir_program.specs.contracts.handles.IRNodePartialEq.TheImpl.{eq-value}
-use Rattle.ir_opts.proofs.unreached.RemovedNodes.{node_same, node_own}
-use Rattle.ir_opts.proofs.unreached.RemovedUses.{any_listed}
+use Rattle.ir_opts.proofs.UnreachedLemmas.RemovedNodes.{node_same, node_own}
+use Rattle.ir_opts.proofs.UnreachedLemmas.RemovedUses.{any_listed}
 use Rattle.ir_opts.proofs.unreached.remove_uses.has_node.Goals as goal
 
 pub returns : goal.returns

@@ -5,8 +5,8 @@ use Rattle.ir_program.specs.declared.handles.IRNode.TheVariants.{Operation as Op
 use Rattle.ir_program.specs.declared.handles.Use.{Use}
 use Rattle.ir_program.specs.declared.handles.Value.{Value}
 use Rattle.ir_trees.specs.Searched.{Lists}
-use Rattle.opt_inside.proofs.reach.Lists.{moved}
-use Rattle.ir_opts.proofs.unreached.RemovedUses.{taken_here, taken_nowhere, lists_more, none_yet, whole}
+use Rattle.opt_inside.proofs.ReachLemmas.Lists.{moved}
+use Rattle.ir_opts.proofs.UnreachedLemmas.RemovedUses.{taken_here, taken_nowhere, lists_more, none_yet, whole}
 use Rattle.ir_opts.proofs.unreached.remove_uses.is_taken_by_others.Goals as goal
 
 pub loop-place-init : goal.loop-place-init

@@ -1,6 +1,6 @@
 use Rattle.std.proofs.Common.{◌≡◌, true, false, sym, ◌∙◌}
 use Rattle.ir_opts.specs.unreached.Removed.{is_listed}
-use Rattle.ir_opts.proofs.unreached.RemovedUses.{taken_outside, taken_within}
+use Rattle.ir_opts.proofs.UnreachedLemmas.RemovedUses.{taken_outside, taken_within}
 use Rattle.ir_opts.proofs.unreached.remove_uses.is_taken_outside.Goals as goal
 
 pub returns : goal.returns

@@ -3,8 +3,8 @@ use Rattle.std.proofs.lemmas.Option.{slice_get-get_or}
 use Rattle.ir_program.specs.Program.{no_handle}
 use Rattle.ir_trees.specs.Searched.{Lists}
 use Rattle.ir_trees.proofs.Members.{at_has}
-use Rattle.ir_opts.proofs.unreached.RemovedAmong.{has_among}
-use Rattle.ir_opts.proofs.unreached.RemovedUses.{none_yet, within_none, within_next, within_all}
+use Rattle.ir_opts.proofs.UnreachedLemmas.RemovedAmong.{has_among}
+use Rattle.ir_opts.proofs.UnreachedLemmas.RemovedUses.{none_yet, within_none, within_next, within_all}
 use Rattle.ir_opts.proofs.unreached.remove_uses.nodes_in.Goals as goal
 
 pub loop-block-init : goal.loop-block-init

@@ -1,8 +1,8 @@
 use Rattle.opt_rows.specs.declared.known.Known.TheVariants.{Undetermined}
 use Rattle.opt_inside.specs.Numbered.{numbers_of}
-use Rattle.opt_inside.proofs.facts.Setting.{is_set}
-use Rattle.opt_inside.proofs.facts.Occurs.{occurs_by}
-use Rattle.opt_inside.proofs.facts.Transport.{transported, first_are}
+use Rattle.opt_inside.proofs.FactsLemmas.Setting.{is_set}
+use Rattle.opt_inside.proofs.FactsLemmas.Occurs.{occurs_by}
+use Rattle.opt_inside.proofs.FactsLemmas.Transport.{transported, first_are}
 use Rattle.opt_inside.proofs.facts.facts.best_facts.Goals as goal
 
 pub returns : goal.returns

@@ -1,6 +1,6 @@
 use Rattle.std.proofs.Common.{◌≡◌, ⊎_elim, ℕ, ◌+◌, ◌<◌, ◌≤◌, List, [], ◌∷◌, ◌++◌, length, Some, slice_get, unwrap_or, sym, ap, ◌∙◌, length-append, arith}
 use Rattle.std.proofs.lemmas.Bool.{cases_lt}
-use Rattle.opt_inside.proofs.facts.Lists.{get_front, get_end}
+use Rattle.opt_inside.proofs.FactsLemmas.Lists.{get_front, get_end}
 use Rattle.opt_inside.proofs.facts.facts.first_items.Goals as goal
 
 module _ {T : Type 0} (first after : List T) (i : ℕ) (x : T) (len : length first ≡ i) (pushed : after ≡ first ++ x ∷ []) where

@@ -5,8 +5,8 @@ use Rattle.ir_program.specs.declared.handles.Operation.{Operation}
 use Rattle.opt_rows.specs.Facts.{IsMostPreciseSolution, as_facts}
 use Rattle.opt_inside.specs.Numbered.{numbers_of}
 use Rattle.opt_inside.specs.facts.Folds.{answers_of}
-use Rattle.opt_inside.proofs.facts.Setting.{is_set}
-use Rattle.opt_inside.proofs.facts.InRange.{in_range, can_be_asked}
+use Rattle.opt_inside.proofs.FactsLemmas.Setting.{is_set}
+use Rattle.opt_inside.proofs.FactsLemmas.InRange.{in_range, can_be_asked}
 use Rattle.opt_inside.proofs.facts.facts.solution_of.Goals as goal
 
 pub most_precise-requires-clause-problem : goal.most_precise-requires-clause-problem

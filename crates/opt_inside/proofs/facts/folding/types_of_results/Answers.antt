@@ -3,7 +3,7 @@ use Rattle.std.proofs.lemmas.Option.{slice_get-map}
 use Rattle.std.proofs.lemmas.List.{length-map}
 use Rattle.ir_program.specs.Program.{TypedValue, results_at}
 use Rattle.opt_inside.specs.facts.Folds.{result_types}
-use Rattle.opt_inside.proofs.facts.Lists.{put_next, put_all}
+use Rattle.opt_inside.proofs.FactsLemmas.Lists.{put_next, put_all}
 use Rattle.opt_inside.proofs.facts.folding.types_of_results.Goals as goal
 
 pub loop-i-preserved : goal.loop-i-preserved

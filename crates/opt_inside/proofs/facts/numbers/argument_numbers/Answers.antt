@@ -4,7 +4,7 @@ use Rattle.std.proofs.lemmas.List.{length-map}
 use Rattle.ir_program.specs.Program.{TypedValue, arguments_at}
 use Rattle.opt_inside.specs.Numbered.{numbers_of}
 use Rattle.opt_inside.specs.facts.Problem.{value_number, values_of}
-use Rattle.opt_inside.proofs.facts.Lists.{mapped_next, mapped_all}
+use Rattle.opt_inside.proofs.FactsLemmas.Lists.{mapped_next, mapped_all}
 use Rattle.opt_inside.proofs.facts.numbers.argument_numbers.Goals as goal
 
 pub loop-i-preserved : goal.loop-i-preserved

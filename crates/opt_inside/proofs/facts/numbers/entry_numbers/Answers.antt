@@ -2,8 +2,8 @@ use Rattle.std.proofs.Common.{◌≡◌, ◌∙◌}
 use Rattle.ir_program.specs.Lists.{regions_in}
 use Rattle.opt_inside.specs.Numbered.{numbers_of}
 use Rattle.opt_inside.specs.facts.Problem.{block_number}
-use Rattle.opt_inside.proofs.facts.Lists.{moved, ended}
-use Rattle.opt_inside.proofs.facts.Entries.{no_entry, one_entry, all_entries}
+use Rattle.opt_inside.proofs.FactsLemmas.Lists.{moved, ended}
+use Rattle.opt_inside.proofs.FactsLemmas.Entries.{no_entry, one_entry, all_entries}
 use Rattle.opt_inside.proofs.facts.numbers.entry_numbers.Goals as goal
 
 pub loop-region-init : goal.loop-region-init

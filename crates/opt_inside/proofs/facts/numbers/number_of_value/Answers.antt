@@ -2,8 +2,8 @@ use Rattle.std.proofs.Common.{Bool, sym, ap, ◌∙◌}
 use Rattle.std.specs.List.{position}
 use Rattle.ir_program.specs.Replacing.{same_value}
 use Rattle.ir_program.specs.declared.handles.Value.{Value}
-use Rattle.opt_inside.proofs.facts.Places.{no_place, a_place}
-use Rattle.opt_inside.proofs.facts.ValueTests.{value_test}
+use Rattle.opt_inside.proofs.FactsLemmas.Places.{no_place, a_place}
+use Rattle.opt_inside.proofs.FactsLemmas.ValueTests.{value_test}
 use Rattle.opt_inside.proofs.facts.numbers.number_of_value.Goals as goal
 
 pub returns-in-Some : goal.returns-in-Some

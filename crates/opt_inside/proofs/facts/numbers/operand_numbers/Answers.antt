@@ -2,7 +2,7 @@ use Rattle.std.proofs.Common.{arith}
 use Rattle.ir_program.specs.Rows.{operands_at}
 use Rattle.opt_inside.specs.Numbered.{numbers_of}
 use Rattle.opt_inside.specs.facts.Problem.{value_number}
-use Rattle.opt_inside.proofs.facts.Lists.{mapped_next, mapped_all}
+use Rattle.opt_inside.proofs.FactsLemmas.Lists.{mapped_next, mapped_all}
 use Rattle.opt_inside.proofs.facts.numbers.operand_numbers.Goals as goal
 
 pub loop-i-preserved : goal.loop-i-preserved

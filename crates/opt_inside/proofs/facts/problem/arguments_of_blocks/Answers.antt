@@ -1,7 +1,7 @@
 use Rattle.std.proofs.Common.{subst}
 use Rattle.opt_inside.specs.Numbered.{numbers_of}
 use Rattle.opt_inside.specs.facts.Problem.{AreArguments, PairsByIndex}
-use Rattle.opt_inside.proofs.facts.Lists.{at_index, paired_next, paired_all}
+use Rattle.opt_inside.proofs.FactsLemmas.Lists.{at_index, paired_next, paired_all}
 use Rattle.opt_inside.proofs.facts.problem.arguments_of_blocks.Goals as goal
 
 pub argument_numbers-requires : goal.argument_numbers-requires

@@ -1,7 +1,7 @@
 use Rattle.std.proofs.Common.{◌+◌, List, [], ◌∷◌, length, ap, ◌∙◌}
 use Rattle.ir_program.specs.declared.handles.Value.{Value}
 use Rattle.opt_inside.specs.Numbered.{numbers_of}
-use Rattle.opt_inside.proofs.facts.Below.{numbered_linked, numbered_block}
+use Rattle.opt_inside.proofs.FactsLemmas.Below.{numbered_linked, numbered_block}
 use Rattle.opt_inside.proofs.facts.problem.problem_of.Goals as goal
 
 pub rows_of-requires : goal.rows_of-requires

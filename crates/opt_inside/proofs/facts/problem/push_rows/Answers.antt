@@ -5,7 +5,7 @@ use Rattle.opt_inside.specs.Numbered.{numbers_of}
 use Rattle.opt_rows.specs.OperationRows.{Row}
 use Rattle.opt_rows.specs.OperationColumns.{buffered}
 use Rattle.opt_inside.specs.facts.Problem.{IsRowOfOperation, PairsByIndex}
-use Rattle.opt_inside.proofs.facts.Lists.{at_index, paired_none, paired_next, paired_all}
+use Rattle.opt_inside.proofs.FactsLemmas.Lists.{at_index, paired_none, paired_next, paired_all}
 use Rattle.opt_inside.proofs.facts.problem.push_rows.Goals as goal
 
 pub row_of-requires-clause-live : goal.row_of-requires-clause-live

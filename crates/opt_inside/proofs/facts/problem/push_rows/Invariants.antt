@@ -1,6 +1,6 @@
 use Rattle.opt_inside.specs.Numbered.{numbers_of}
 use Rattle.opt_inside.specs.facts.Problem.{IsRowOfOperation}
-use Rattle.opt_inside.proofs.facts.Lists.{Paired}
+use Rattle.opt_inside.proofs.FactsLemmas.Lists.{Paired}
 use Rattle.opt_inside.proofs.facts.problem.push_rows.Given as goal
 
 abbrev pub invariant-loop-op : goal.invariant-loop-op

@@ -1,8 +1,8 @@
 use Rattle.std.proofs.Common.{ℕ, List, [], ◌∷◌, ◌++◌, ap, ◌∙◌, arith}
 use Rattle.opt_inside.specs.Numbered.{numbers_of}
 use Rattle.opt_inside.specs.facts.Problem.{IsEdge, branches_to}
-use Rattle.opt_inside.proofs.facts.Lists.{paired_none, paired_next, paired_all}
-use Rattle.opt_inside.proofs.facts.Edges.{edge_within, edge_there, edge_is}
+use Rattle.opt_inside.proofs.FactsLemmas.Lists.{paired_none, paired_next, paired_all}
+use Rattle.opt_inside.proofs.FactsLemmas.Edges.{edge_within, edge_there, edge_is}
 use Rattle.opt_inside.proofs.facts.rows.edges_of.Goals as goal
 
 pub successor-requires : goal.successor-requires

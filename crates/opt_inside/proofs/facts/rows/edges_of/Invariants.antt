@@ -2,7 +2,7 @@ use Rattle.std.proofs.Common.{◌≡◌, Some}
 use Rattle.ir_program.specs.Program.{OperationView, operation_at}
 use Rattle.opt_inside.specs.Numbered.{numbers_of}
 use Rattle.opt_inside.specs.facts.Problem.{IsEdge, branches_to}
-use Rattle.opt_inside.proofs.facts.Lists.{Paired}
+use Rattle.opt_inside.proofs.FactsLemmas.Lists.{Paired}
 use Rattle.opt_inside.proofs.facts.rows.edges_of.Given as goal
 
 abbrev pub invariant-loop-i : goal.invariant-loop-i

@@ -2,7 +2,7 @@ use Rattle.std.proofs.Common.{◌∙◌, sym, ap}
 use Rattle.std.proofs.lemmas.Option.{same_Some}
 use Rattle.opt_inside.specs.Numbered.{numbers_of}
 use Rattle.opt_inside.specs.facts.Problem.{block_number}
-use Rattle.opt_inside.proofs.facts.Edges.{row_is}
+use Rattle.opt_inside.proofs.FactsLemmas.Edges.{row_is}
 use Rattle.opt_inside.proofs.facts.rows.row_of.Goals as goal
 
 pub unreachable-requires : goal.unreachable-requires

@@ -1,5 +1,5 @@
 use Rattle.std.proofs.Common.{◌≡◌, ◌∙◌, length, eq-eqb, eqb-true, sym, ap}
-use Rattle.opt_inside.proofs.forwarding.Fitting.{edge_fits}
+use Rattle.opt_inside.proofs.ForwardingLemmas.Fitting.{edge_fits}
 use Rattle.opt_inside.proofs.forwarding.fits.fits_edge.Goals as goal
 
 pub returns : goal.returns

@@ -1,5 +1,5 @@
 use Rattle.std.proofs.Common.{refl}
-use Rattle.opt_inside.proofs.forwarding.Fitting.{fits_of_none}
+use Rattle.opt_inside.proofs.ForwardingLemmas.Fitting.{fits_of_none}
 use Rattle.opt_inside.proofs.forwarding.fits.fits_edges_from.Goals as goal
 
 pub returns-in-None : goal.returns-in-None

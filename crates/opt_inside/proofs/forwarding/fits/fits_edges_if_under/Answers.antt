@@ -1,7 +1,7 @@
 use Rattle.std.proofs.Common.{◌∙◌, true≢false, sym}
 use Rattle.opt_inside.specs.forwarding.Fits.{FitsEdgesAt}
 use Rattle.opt_inside.specs.forwarding.Tops.{IsAbove}
-use Rattle.opt_inside.proofs.forwarding.Fitting.{about_either}
+use Rattle.opt_inside.proofs.ForwardingLemmas.Fitting.{about_either}
 use Rattle.opt_inside.proofs.forwarding.fits.fits_edges_if_under.Goals as goal
 
 pub returns : goal.returns

@@ -1,8 +1,8 @@
 use Rattle.std.proofs.Common.{◌∙◌, true≢false, refl, sym}
 use Rattle.opt_inside.proofs.Around.{HasLists}
 use Rattle.opt_inside.specs.forwarding.Fits.{FitsEdgesAt}
-use Rattle.opt_inside.proofs.forwarding.Fitting.{fits_at_each, fits_under}
-use Rattle.opt_inside.proofs.forwarding.SeenUnder.{seeing_begins, seeing_goes_on, seeing_ends, next_is_there, holds_of_next}
+use Rattle.opt_inside.proofs.ForwardingLemmas.Fitting.{fits_at_each, fits_under}
+use Rattle.opt_inside.proofs.ForwardingLemmas.SeenUnder.{seeing_begins, seeing_goes_on, seeing_ends, next_is_there, holds_of_next}
 use Rattle.opt_inside.proofs.forwarding.fits.fits_edges_inside.Goals as goal
 
 pub fits_edges_if_under-requires : goal.fits_edges_if_under-requires

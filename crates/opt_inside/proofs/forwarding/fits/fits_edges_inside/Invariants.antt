@@ -1,5 +1,5 @@
 use Rattle.opt_inside.specs.forwarding.Fits.{FitsEdgesAt}
-use Rattle.opt_inside.proofs.forwarding.SeenUnder.{IsSeenUpTo}
+use Rattle.opt_inside.proofs.ForwardingLemmas.SeenUnder.{IsSeenUpTo}
 use Rattle.opt_inside.proofs.forwarding.fits.fits_edges_inside.Given as goal
 
 -- those that were seen hold regions where looking begins, or have edges that fit

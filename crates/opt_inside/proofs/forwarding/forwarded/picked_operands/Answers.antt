@@ -1,7 +1,7 @@
 use Rattle.std.proofs.Common.{ap, ◌∙◌, get_or, arith}
 use Rattle.std.proofs.lemmas.Option.{slice_get-get_or}
 use Rattle.ir_program.specs.Rows.{operands_at}
-use Rattle.opt_inside.proofs.forwarding.Picked.{picked_more, picked_none, picked_all}
+use Rattle.opt_inside.proofs.ForwardingLemmas.Picked.{picked_more, picked_none, picked_all}
 use Rattle.opt_inside.proofs.forwarding.forwarded.picked_operands.Goals as goal
 use Rattle.opt_inside.proofs.forwarding.forwarded.picked_operands.Goals.{then-index-count+in_ok-push, else-index-count}
 

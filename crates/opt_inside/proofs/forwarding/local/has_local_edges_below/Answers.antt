@@ -1,4 +1,4 @@
-use Rattle.opt_inside.proofs.forwarding.Staying.{leads_below}
+use Rattle.opt_inside.proofs.ForwardingLemmas.Staying.{leads_below}
 use Rattle.opt_inside.proofs.forwarding.local.has_local_edges_below.Goals as goal
 
 pub returns-clause-exact : goal.returns-clause-exact

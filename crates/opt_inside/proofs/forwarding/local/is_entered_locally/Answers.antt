@@ -6,8 +6,8 @@ use Rattle.ir_program.specs.declared.handles.BasicBlock.{BasicBlock}
 use Rattle.ir_program.specs.declared.handles.Use.{Use}
 use Rattle.ir_trees.proofs.Members.{at_has}
 use Rattle.opt_inside.specs.forwarding.Local.{IsLocalEdge}
-use Rattle.opt_inside.proofs.forwarding.Partway.{get-middle, moved, ended, each_more}
-use Rattle.opt_inside.proofs.forwarding.Users.{user_live}
+use Rattle.opt_inside.proofs.ForwardingLemmas.Partway.{get-middle, moved, ended, each_more}
+use Rattle.opt_inside.proofs.ForwardingLemmas.Users.{user_live}
 use Rattle.opt_inside.proofs.forwarding.local.is_entered_locally.Goals as goal
 
 pub is_local_edge-requires-clause-operation : goal.is_local_edge-requires-clause-operation

@@ -3,7 +3,7 @@ use Rattle.std.proofs.lemmas.Option.{same_Some}
 use Rattle.ir_program.specs.Lists.{operations_in}
 use Rattle.ir_program.specs.Program.{operation_at}
 use Rattle.opt_inside.specs.forwarding.Local.{AreSiblings}
-use Rattle.opt_inside.proofs.forwarding.Terminators.{no_next, none_is, payload_passes, passes_payload}
+use Rattle.opt_inside.proofs.ForwardingLemmas.Terminators.{no_next, none_is, payload_passes, passes_payload}
 use Rattle.opt_inside.proofs.forwarding.local.is_local_edge.Goals as goal
 use Rattle.opt_inside.proofs.forwarding.local.is_local_edge.Goals.{then-is_none, else-is_none}
 

@@ -1,5 +1,5 @@
 use Rattle.std.proofs.Common.{refl}
-use Rattle.opt_inside.proofs.forwarding.EachUnder.{local_of_none}
+use Rattle.opt_inside.proofs.ForwardingLemmas.EachUnder.{local_of_none}
 use Rattle.opt_inside.proofs.forwarding.under.has_local_edges_from.Goals as goal
 
 pub returns-in-None : goal.returns-in-None

@@ -1,8 +1,8 @@
 use Rattle.std.proofs.Common.{◌∙◌, true≢false, refl, sym}
 use Rattle.opt_inside.proofs.Around.{HasLists}
 use Rattle.opt_inside.specs.forwarding.Local.{HasLocalEdgesAt}
-use Rattle.opt_inside.proofs.forwarding.EachUnder.{each_local, local_from_each}
-use Rattle.opt_inside.proofs.forwarding.SeenUnder.{seeing_begins, seeing_goes_on, seeing_ends, next_is_there, holds_of_next}
+use Rattle.opt_inside.proofs.ForwardingLemmas.EachUnder.{each_local, local_from_each}
+use Rattle.opt_inside.proofs.ForwardingLemmas.SeenUnder.{seeing_begins, seeing_goes_on, seeing_ends, next_is_there, holds_of_next}
 use Rattle.opt_inside.proofs.forwarding.under.has_local_edges_inside.Goals as goal
 
 pub has_local_edges_if_under-requires : goal.has_local_edges_if_under-requires

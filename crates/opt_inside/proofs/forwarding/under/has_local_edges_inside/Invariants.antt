@@ -1,5 +1,5 @@
 use Rattle.opt_inside.specs.forwarding.Local.{HasLocalEdgesAt}
-use Rattle.opt_inside.proofs.forwarding.SeenUnder.{IsSeenUpTo}
+use Rattle.opt_inside.proofs.ForwardingLemmas.SeenUnder.{IsSeenUpTo}
 use Rattle.opt_inside.proofs.forwarding.under.has_local_edges_inside.Given as goal
 
 -- those that were seen hold regions where looking begins, or have local edges

@@ -2,8 +2,8 @@ use Rattle.std.proofs.Common.{sym, subst}
 use Rattle.std.specs.Prelude.{◌↔◌}
 use Rattle.digraph.specs.Marks.{IsMarked}
 use Rattle.opt_trees.specs.Simplify.{IsReached}
-use Rattle.opt_inside.proofs.reach.Ends.{if_ok}
-use Rattle.opt_inside.proofs.reach.ReachTest.{has_reach_test}
+use Rattle.opt_inside.proofs.ReachLemmas.Ends.{if_ok}
+use Rattle.opt_inside.proofs.ReachLemmas.ReachTest.{has_reach_test}
 use Rattle.opt_inside.proofs.reach.fates.find_fates.Goals as goal
 
 pub judge_all-requires-clause-reached : goal.judge_all-requires-clause-reached

@@ -1,6 +1,6 @@
 use Rattle.std.proofs.Common.{true≢false, sym, ◌∙◌}
 use Rattle.std.proofs.lemmas.Option.{same_Some}
-use Rattle.opt_inside.proofs.reach.Runs.{run_there, run_nowhere}
+use Rattle.opt_inside.proofs.ReachLemmas.Runs.{run_there, run_nowhere}
 use Rattle.opt_inside.proofs.reach.fates.is_visited.Goals as goal
 
 pub returns-in-Some : goal.returns-in-Some

@@ -1,4 +1,4 @@
-use Rattle.opt_inside.proofs.reach.Runs.{judged}
+use Rattle.opt_inside.proofs.ReachLemmas.Runs.{judged}
 use Rattle.opt_inside.proofs.reach.fates.judge.Goals as goal
 
 pub unreachable-requires : goal.unreachable-requires

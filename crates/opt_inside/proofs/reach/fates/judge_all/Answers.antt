@@ -3,9 +3,9 @@ use Rattle.ir_program.specs.Program.{no_handle}
 use Rattle.opt_inside.specs.reach.Fates.{IsJudgedFate}
 use Rattle.opt_inside.proofs.Around.{HasLists}
 use Rattle.opt_inside.specs.Numbered.{numbers_of}
-use Rattle.opt_inside.proofs.reach.Lists.{at_index}
-use Rattle.opt_inside.proofs.reach.Ends.{numbered_linked, fates_more, one_longer}
-use Rattle.opt_inside.proofs.reach.Occurs.{Occurs}
+use Rattle.opt_inside.proofs.ReachLemmas.Lists.{at_index}
+use Rattle.opt_inside.proofs.ReachLemmas.Ends.{numbered_linked, fates_more, one_longer}
+use Rattle.opt_inside.proofs.ReachLemmas.Occurs.{Occurs}
 use Rattle.opt_inside.proofs.reach.fates.judge_all.Goals as goal
 
 pub judge-requires-clause-linked : goal.judge-requires-clause-linked

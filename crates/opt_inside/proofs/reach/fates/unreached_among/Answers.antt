@@ -4,7 +4,7 @@ use Rattle.ir_program.specs.Program.{no_handle}
 use Rattle.ir_program.specs.declared.handles.Ptr.{Ptr}
 use Rattle.ir_program.specs.declared.handles.BasicBlock.{BasicBlock}
 use Rattle.opt_inside.specs.declared.reach.fates.Fate.TheVariants.{Unreached}
-use Rattle.opt_inside.proofs.reach.Marks.{gathered_none, distinct_none, going_gathered, going_once, going_all}
+use Rattle.opt_inside.proofs.ReachLemmas.Marks.{gathered_none, distinct_none, going_gathered, going_once, going_all}
 use Rattle.opt_inside.proofs.reach.fates.unreached_among.Goals as goal
 
 pub loop-number-init : goal.loop-number-init

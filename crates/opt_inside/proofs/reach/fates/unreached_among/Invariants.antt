@@ -3,7 +3,7 @@ use Rattle.ir_program.specs.declared.handles.Ptr.{Ptr}
 use Rattle.ir_program.specs.declared.handles.BasicBlock.{BasicBlock}
 use Rattle.ir_trees.specs.Searched.{AreDistinct}
 use Rattle.opt_inside.specs.declared.reach.fates.Fate.TheVariants.{Unreached}
-use Rattle.opt_inside.proofs.reach.Marks.{Gathers}
+use Rattle.opt_inside.proofs.ReachLemmas.Marks.{Gathers}
 use Rattle.opt_inside.proofs.reach.fates.unreached_among.Given as goal
 
 -- those of the first blocks that become unreached

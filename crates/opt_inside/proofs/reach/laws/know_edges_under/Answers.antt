@@ -1,5 +1,5 @@
 use Rattle.opt_inside.proofs.Around.{HasLists}
-use Rattle.opt_inside.proofs.reach.FromBelow.{local_from_below, fits_from_below}
+use Rattle.opt_inside.proofs.ReachLemmas.FromBelow.{local_from_below, fits_from_below}
 use Rattle.opt_inside.proofs.reach.laws.know_edges_under.Goals as goal
 
 pub returns-clause-local : goal.returns-clause-local

@@ -4,7 +4,7 @@ use Rattle.ir_program.specs.Program.{no_handle}
 use Rattle.ir_program.specs.declared.handles.Ptr.{Ptr}
 use Rattle.ir_program.specs.declared.handles.BasicBlock.{BasicBlock}
 use Rattle.opt_inside.specs.reach.Paths.{IsEntry}
-use Rattle.opt_inside.proofs.reach.Marks.{gathered_none, entries_gathered, entries_all}
+use Rattle.opt_inside.proofs.ReachLemmas.Marks.{gathered_none, entries_gathered, entries_all}
 use Rattle.opt_inside.proofs.reach.paths.entry_numbers.Goals as goal
 
 pub loop-number-init : goal.loop-number-init

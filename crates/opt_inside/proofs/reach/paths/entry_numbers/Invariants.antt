@@ -2,7 +2,7 @@ use Rattle.std.proofs.Common.{◌≡◌, ℕ, Some, slice_get}
 use Rattle.ir_program.specs.declared.handles.Ptr.{Ptr}
 use Rattle.ir_program.specs.declared.handles.BasicBlock.{BasicBlock}
 use Rattle.opt_inside.specs.reach.Paths.{IsEntry}
-use Rattle.opt_inside.proofs.reach.Marks.{Gathers}
+use Rattle.opt_inside.proofs.ReachLemmas.Marks.{Gathers}
 use Rattle.opt_inside.proofs.reach.paths.entry_numbers.Given as goal
 
 -- the numbers of the entries among the first ones

@@ -1,6 +1,6 @@
 use Rattle.std.proofs.Common.{sym, ◌∙◌}
 use Rattle.ir_program.specs.Replacing.{same_block}
-use Rattle.opt_inside.proofs.reach.Places.{no_place}
+use Rattle.opt_inside.proofs.ReachLemmas.Places.{no_place}
 use Rattle.opt_inside.proofs.reach.paths.number_of_block.Goals as goal
 
 pub returns-in-None : goal.returns-in-None

@@ -3,8 +3,8 @@ use Rattle.std.specs.Prelude.{◌↔◌, Contains}
 use Rattle.ir_program.specs.declared.handles.Ptr.{Ptr}
 use Rattle.ir_program.specs.declared.handles.BasicBlock.{BasicBlock}
 use Rattle.opt_inside.specs.reach.Paths.{IsEntry}
-use Rattle.opt_inside.proofs.reach.Lists.{at_index}
-use Rattle.opt_inside.proofs.reach.Marks.{no_rows, row_more, rows_are}
+use Rattle.opt_inside.proofs.ReachLemmas.Lists.{at_index}
+use Rattle.opt_inside.proofs.ReachLemmas.Marks.{no_rows, row_more, rows_are}
 use Rattle.opt_inside.proofs.reach.paths.path_rows.Goals as goal
 
 pub loop-block-init : goal.loop-block-init

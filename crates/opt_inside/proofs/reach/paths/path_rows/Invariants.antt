@@ -1,4 +1,4 @@
-use Rattle.opt_inside.proofs.reach.Marks.{HasRows}
+use Rattle.opt_inside.proofs.ReachLemmas.Marks.{HasRows}
 use Rattle.opt_inside.proofs.reach.paths.path_rows.Given as goal
 
 -- the rows of the first blocks

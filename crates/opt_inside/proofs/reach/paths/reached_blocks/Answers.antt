@@ -2,7 +2,7 @@ use Rattle.std.proofs.Common.{ℕ, List, sym, subst, Vec, Global}
 use Rattle.digraph.specs.Graph.{InRange}
 use Rattle.opt_inside.specs.Numbered.{numbers_of}
 use Rattle.opt_inside.proofs.Around.{HasLists}
-use Rattle.opt_inside.proofs.reach.Ends.{numbered_linked, edges_in_range, marks_are}
+use Rattle.opt_inside.proofs.ReachLemmas.Ends.{numbered_linked, edges_in_range, marks_are}
 use Rattle.opt_inside.proofs.reach.paths.reached_blocks.Goals as goal
 
 pub path_rows-requires : goal.path_rows-requires

@@ -1,7 +1,7 @@
 use Rattle.std.proofs.Common.{arith}
 use Rattle.ir_program.specs.Rows.{successors_at}
 use Rattle.opt_inside.specs.reach.Paths.{number_in}
-use Rattle.opt_inside.proofs.reach.Lists.{mapped_next, mapped_all}
+use Rattle.opt_inside.proofs.ReachLemmas.Lists.{mapped_next, mapped_all}
 use Rattle.opt_inside.proofs.reach.paths.successor_numbers.Goals as goal
 
 pub loop-i-preserved : goal.loop-i-preserved

@@ -1,5 +1,5 @@
 use Rattle.opt_inside.proofs.Around.{HasLists}
-use Rattle.opt_inside.proofs.reach.Begins.{starts_at_operation, starts_at_block, starts_at_region, starts_nowhere}
+use Rattle.opt_inside.proofs.ReachLemmas.Begins.{starts_at_operation, starts_at_block, starts_at_region, starts_nowhere}
 use Rattle.opt_inside.proofs.reach.starts.has_start.Goals as goal
 
 pub returns-in-Operation-clause-there : goal.returns-in-Operation-clause-there

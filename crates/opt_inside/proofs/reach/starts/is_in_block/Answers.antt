@@ -1,7 +1,7 @@
 use Rattle.std.proofs.Common.{sym, ◌∙◌, subst}
 use Rattle.std.proofs.lemmas.Option.{same_Some}
 use Rattle.ir_program.specs.Lists.{StandsInBlock}
-use Rattle.opt_inside.proofs.reach.Begins.{tested}
+use Rattle.opt_inside.proofs.ReachLemmas.Begins.{tested}
 use Rattle.opt_inside.proofs.reach.starts.is_in_block.Goals as goal
 
 pub returns-in-Some : goal.returns-in-Some

@@ -4,15 +4,15 @@ use Rattle.ir_characters.specs.Texts.{codes_of}
 use Rattle.ir_grammar.specs.declared.grammar.Event.TheVariants.{Did}
 use Rattle.ir_tokens.specs.Tokens.{text_between}
 use Rattle.text_dialect.specs.Seen.{seen}
-use Rattle.text_reading.proofs.building.Discarded.{used_since}
-use Rattle.text_reading.proofs.building.Numbers.{erased_both}
-use Rattle.text_reading.proofs.building.Payloads.{payloads_both, payloads_none}
-use Rattle.text_reading.proofs.building.Shown.{payloads_since}
-use Rattle.text_reading.proofs.frames.Rising.{get_there}
+use Rattle.text_reading.proofs.BuildingLemmas.Discarded.{used_since}
+use Rattle.text_reading.proofs.BuildingLemmas.Numbers.{erased_both}
+use Rattle.text_reading.proofs.BuildingLemmas.Payloads.{payloads_both, payloads_none}
+use Rattle.text_reading.proofs.BuildingLemmas.Shown.{payloads_since}
+use Rattle.text_reading.proofs.FramesLemmas.Rising.{get_there}
 use Rattle.text_reading.specs.assembling.Assembling.{stage}
 use Rattle.text_reading.specs.declared.assembling.assembling.Assembler.{Assembler}
-use Rattle.text_reading.proofs.assembling.Gathering.{Gathers, errors_same, gathers_can, gathers_first, gathers_full, gathers_last, gathers_next, gathers_refused, gathers_sound, rest_at, took_so}
-use Rattle.text_reading.proofs.assembling.Undone.{erased_same, err_at, held_undone, ok_unless, on_err_any, seen_same}
+use Rattle.text_reading.proofs.AssemblingLemmas.Gathering.{Gathers, errors_same, gathers_can, gathers_first, gathers_full, gathers_last, gathers_next, gathers_refused, gathers_sound, rest_at, took_so}
+use Rattle.text_reading.proofs.AssemblingLemmas.Undone.{erased_same, err_at, held_undone, ok_unless, on_err_any, seen_same}
 use Rattle.text_reading.proofs.assembling.assembling.assemble.Goals as goal
 
 pub loop-index-init : goal.loop-index-init

@@ -1,6 +1,6 @@
 use Rattle.ir_characters.specs.Texts.{codes_of}
 use Rattle.ir_tokens.specs.Tokens.{text_between}
-use Rattle.text_reading.proofs.assembling.Gathering.{RunsSo}
+use Rattle.text_reading.proofs.AssemblingLemmas.Gathering.{RunsSo}
 use Rattle.text_reading.proofs.assembling.assembling.assemble.Given as goal
 
 abbrev pub invariant-loop-index : goal.invariant-loop-index

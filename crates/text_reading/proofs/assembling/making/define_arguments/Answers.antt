@@ -1,7 +1,7 @@
 use Rattle.std.proofs.Common.{◌∙◌, ◌<◌, ◌≤◌, length, get_or, refl, arith}
 use Rattle.ir_program.specs.Program.{TypedValue, arguments_at}
 use Rattle.ir_program.specs.declared.handles.Value.{Value}
-use Rattle.text_reading.proofs.frames.Defining.{defines_more, defines_none}
+use Rattle.text_reading.proofs.FramesLemmas.Defining.{defines_more, defines_none}
 use Rattle.text_reading.proofs.assembling.making.define_arguments.Goals as goal
 use Rattle.text_reading.proofs.assembling.making.define_arguments.Goals.{then-index-count+then-number-values, else-index-count, else-index-count-via-then-index-count+else-number-values, else-index-count-via-else-index-count}
 

@@ -7,7 +7,7 @@ use Rattle.ir_program.specs.declared.handles.IRNode.{IRNode}
 use Rattle.ir_program.specs.declared.handles.Ptr.{Ptr}
 use Rattle.text_reading.specs.building.Made.{lists_of}
 use Rattle.text_reading.specs.frames.Worlds.{joined}
-use Rattle.text_reading.proofs.assembling.Taking.{taken_off}
+use Rattle.text_reading.proofs.AssemblingLemmas.Taking.{taken_off}
 use Rattle.text_reading.proofs.assembling.making.take_off.Goals as goal
 
 pub loop-blocks-preserved : goal.loop-blocks-preserved

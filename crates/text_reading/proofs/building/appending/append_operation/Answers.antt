@@ -1,9 +1,9 @@
 use Rattle.std.proofs.Common.{refl}
-use Rattle.text_reading.proofs.building.Apart.{operation_apart}
-use Rattle.text_reading.proofs.building.Linked.{put_appends}
-use Rattle.text_reading.proofs.building.Numbers.{gives_nothing}
-use Rattle.text_reading.proofs.building.Opened.{unlinked_block, unlinked_operation}
-use Rattle.text_reading.proofs.building.Payloads.{payloads_block}
+use Rattle.text_reading.proofs.BuildingLemmas.Apart.{operation_apart}
+use Rattle.text_reading.proofs.BuildingLemmas.Linked.{put_appends}
+use Rattle.text_reading.proofs.BuildingLemmas.Numbers.{gives_nothing}
+use Rattle.text_reading.proofs.BuildingLemmas.Opened.{unlinked_block, unlinked_operation}
+use Rattle.text_reading.proofs.BuildingLemmas.Payloads.{payloads_block}
 use Rattle.text_reading.proofs.building.appending.append_operation.Goals as goal
 
 pub insert_at_back-requires-clause-unlinked : goal.insert_at_back-requires-clause-unlinked

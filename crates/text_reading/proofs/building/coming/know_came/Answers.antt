@@ -1,5 +1,5 @@
-use Rattle.text_reading.proofs.building.Came.{came_none, came_same, came_opens, came_makes, came_appends, came_links}
-use Rattle.text_reading.proofs.building.Discarded.{used_since}
+use Rattle.text_reading.proofs.BuildingLemmas.Came.{came_none, came_same, came_opens, came_makes, came_appends, came_links}
+use Rattle.text_reading.proofs.BuildingLemmas.Discarded.{used_since}
 use Rattle.text_reading.proofs.building.coming.know_came.Goals as goal
 
 pub returns-clause-starts : goal.returns-clause-starts

@@ -1,8 +1,8 @@
 use Rattle.std.proofs.Common.{subst}
 use Rattle.text_dialect.specs.Seen.{seen}
-use Rattle.text_reading.proofs.building.Discarded.{bare_loose, bare_outside, bare_unused, erases_bare, undone}
-use Rattle.text_reading.proofs.building.Shown.{payloads_of_both}
-use Rattle.text_reading.proofs.building.Stood.{HasLists, seen_forest}
+use Rattle.text_reading.proofs.BuildingLemmas.Discarded.{bare_loose, bare_outside, bare_unused, erases_bare, undone}
+use Rattle.text_reading.proofs.BuildingLemmas.Shown.{payloads_of_both}
+use Rattle.text_reading.proofs.BuildingLemmas.Stood.{HasLists, seen_forest}
 use Rattle.text_reading.proofs.building.discarding.discard.Goals as goal
 
 pub erase_all-requires-clause-loose : goal.erase_all-requires-clause-loose

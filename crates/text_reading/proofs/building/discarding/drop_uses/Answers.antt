@@ -4,10 +4,10 @@ use Rattle.ir_program.specs.Program.{no_handle}
 use Rattle.ir_program.specs.declared.handles.IRNode.{IRNode}
 use Rattle.ir_program.specs.declared.handles.IRNode.TheVariants.{Operation as OperationNode}
 use Rattle.text_dialect.specs.Seen.{seen}
-use Rattle.text_reading.proofs.building.Discarded.{drops_step, next_outside, next_there}
-use Rattle.text_reading.proofs.building.Numbers.{erased_both}
-use Rattle.text_reading.proofs.building.Shown.{payloads_of_both}
-use Rattle.text_reading.proofs.building.Stood.{HasLists, seen_forest, there_live, drops_outside, drops_seen}
+use Rattle.text_reading.proofs.BuildingLemmas.Discarded.{drops_step, next_outside, next_there}
+use Rattle.text_reading.proofs.BuildingLemmas.Numbers.{erased_both}
+use Rattle.text_reading.proofs.BuildingLemmas.Shown.{payloads_of_both}
+use Rattle.text_reading.proofs.BuildingLemmas.Stood.{HasLists, seen_forest, there_live, drops_outside, drops_seen}
 use Rattle.text_reading.proofs.building.discarding.drop_uses.Goals as goal
 
 pub drop_all_uses-requires : goal.drop_all_uses-requires

@@ -4,10 +4,10 @@ use Rattle.ir_program.specs.Program.{no_handle}
 use Rattle.ir_program.specs.declared.handles.IRNode.{IRNode}
 use Rattle.ir_program.specs.declared.handles.IRNode.TheVariants.{Operation as OperationNode}
 use Rattle.text_dialect.specs.Seen.{seen}
-use Rattle.text_reading.proofs.building.Discarded.{erases_step, left_outside, next_thing_loose, next_unused}
-use Rattle.text_reading.proofs.building.Numbers.{erased_both}
-use Rattle.text_reading.proofs.building.Shown.{payloads_of_both}
-use Rattle.text_reading.proofs.building.Stood.{HasLists, seen_forest}
+use Rattle.text_reading.proofs.BuildingLemmas.Discarded.{erases_step, left_outside, next_thing_loose, next_unused}
+use Rattle.text_reading.proofs.BuildingLemmas.Numbers.{erased_both}
+use Rattle.text_reading.proofs.BuildingLemmas.Shown.{payloads_of_both}
+use Rattle.text_reading.proofs.BuildingLemmas.Stood.{HasLists, seen_forest}
 use Rattle.text_reading.proofs.building.discarding.erase_all.Goals as goal
 
 pub erase_thing-requires-clause-loose : goal.erase_thing-requires-clause-loose

@@ -2,7 +2,7 @@ use Rattle.std.proofs.Common.{◌∷◌, [], sym, subst}
 use Rattle.ir_program.specs.declared.handles.IRNode.TheVariants.{Operation as OperationNode, BasicBlock as BlockNode}
 use Rattle.text_dialect.specs.Seen.{seen}
 use Rattle.text_reading.specs.building.Inside.{AreUnused, ErasesNodes, IsLoose, KeepsPayloadsOutside}
-use Rattle.text_reading.proofs.building.Stood.{HasLists, unused_apart, operation_erased, operation_outside, block_erased, block_outside}
+use Rattle.text_reading.proofs.BuildingLemmas.Stood.{HasLists, unused_apart, operation_erased, operation_outside, block_erased, block_outside}
 use Rattle.text_reading.proofs.building.discarding.erase_thing.Goals as goal
 
 pub erase-requires-clause-apart : goal.erase-requires-clause-apart

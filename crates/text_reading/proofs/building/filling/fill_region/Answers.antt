@@ -3,13 +3,13 @@ use Rattle.std.proofs.lemmas.Option.{slice_get-get_or}
 use Rattle.ir_program.specs.Program.{no_handle, block_at}
 use Rattle.text_dialect.specs.Seen.{seen, seen_block}
 use Rattle.text_reading.specs.building.Made.{FillsRegion}
-use Rattle.text_reading.proofs.building.Apart.{AreRegionsListed}
-use Rattle.text_reading.proofs.building.Filled.{fills_both, put_fills, next_loose, still_holder, holder_stands, can_put}
-use Rattle.text_reading.proofs.building.Members.{take_step}
-use Rattle.text_reading.proofs.building.Numbers.{gives_nothing, gives_still}
-use Rattle.text_reading.proofs.building.Opened.{unlinked_block}
-use Rattle.text_reading.proofs.building.Options.{unmapped_there}
-use Rattle.text_reading.proofs.building.Payloads.{payloads_still}
+use Rattle.text_reading.proofs.BuildingLemmas.Apart.{AreRegionsListed}
+use Rattle.text_reading.proofs.BuildingLemmas.Filled.{fills_both, put_fills, next_loose, still_holder, holder_stands, can_put}
+use Rattle.text_reading.proofs.BuildingLemmas.Members.{take_step}
+use Rattle.text_reading.proofs.BuildingLemmas.Numbers.{gives_nothing, gives_still}
+use Rattle.text_reading.proofs.BuildingLemmas.Opened.{unlinked_block}
+use Rattle.text_reading.proofs.BuildingLemmas.Options.{unmapped_there}
+use Rattle.text_reading.proofs.BuildingLemmas.Payloads.{payloads_still}
 use Rattle.text_reading.proofs.building.filling.fill_region.Goals as goal
 
 pub insert_at_back-requires-clause-region : goal.insert_at_back-requires-clause-region

@@ -3,9 +3,9 @@ use Rattle.std.proofs.lemmas.Option.{slice_get_read, slice_get-map}
 use Rattle.text_dialect.specs.Seen.{seen}
 use Rattle.text_reading.specs.building.Loose.{AreLooseBlocks, AreDistinctHandles, regions_of}
 use Rattle.text_reading.specs.building.Made.{FillsRegion, lists_of}
-use Rattle.text_reading.proofs.building.Apart.{AreRegionsListed}
-use Rattle.text_reading.proofs.building.Filled.{fills_step, next_list_loose, regions_seen, regions_distinct}
-use Rattle.text_reading.proofs.building.Numbers.{gives_still}
+use Rattle.text_reading.proofs.BuildingLemmas.Apart.{AreRegionsListed}
+use Rattle.text_reading.proofs.BuildingLemmas.Filled.{fills_step, next_list_loose, regions_seen, regions_distinct}
+use Rattle.text_reading.proofs.BuildingLemmas.Numbers.{gives_still}
 use Rattle.text_reading.proofs.building.filling.fill_regions.Goals as goal
 
 pub fill_region-requires-clause-loose : goal.fill_region-requires-clause-loose

@@ -1,5 +1,5 @@
 use Rattle.std.proofs.Common.{subst}
-use Rattle.text_reading.proofs.building.Stood.{HasLists, NamesLive, seen_forest, seen_named}
+use Rattle.text_reading.proofs.BuildingLemmas.Stood.{HasLists, NamesLive, seen_forest, seen_named}
 use Rattle.text_reading.proofs.building.laws.know_seen.Goals as goal
 
 pub returns-clause-forest : goal.returns-clause-forest

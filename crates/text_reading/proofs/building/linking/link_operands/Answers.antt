@@ -6,10 +6,10 @@ use Rattle.ir_program.specs.declared.handles.DefiningEntity.TheVariants.{Op as B
 use Rattle.ir_program.specs.declared.handles.Value.{Value}
 use Rattle.text_dialect.specs.Seen.{seen}
 use Rattle.text_reading.specs.building.Made.{LinksOperands}
-use Rattle.text_reading.proofs.building.Linked.{AreTyped, links_none, links_both, links_still, push_links, defined_live, still_live}
-use Rattle.text_reading.proofs.building.Members.{take_step}
-use Rattle.text_reading.proofs.building.Numbers.{gives_none, gives_nothing, gives_still}
-use Rattle.text_reading.proofs.building.Payloads.{payloads_operation, payloads_unchanged}
+use Rattle.text_reading.proofs.BuildingLemmas.Linked.{AreTyped, links_none, links_both, links_still, push_links, defined_live, still_live}
+use Rattle.text_reading.proofs.BuildingLemmas.Members.{take_step}
+use Rattle.text_reading.proofs.BuildingLemmas.Numbers.{gives_none, gives_nothing, gives_still}
+use Rattle.text_reading.proofs.BuildingLemmas.Payloads.{payloads_operation, payloads_unchanged}
 use Rattle.text_reading.proofs.building.linking.link_operands.Goals as goal
 
 pub loop-value-init : goal.loop-value-init

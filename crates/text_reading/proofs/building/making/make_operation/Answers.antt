@@ -1,7 +1,7 @@
 use Rattle.std.proofs.Common.{length}
 use Rattle.text_reading.specs.building.Made.{lists_of}
-use Rattle.text_reading.proofs.building.Built.{built_loose, built_all_loose, built_numbers, makes}
-use Rattle.text_reading.proofs.building.Numbers.{gives_still}
+use Rattle.text_reading.proofs.BuildingLemmas.Built.{built_loose, built_all_loose, built_numbers, makes}
+use Rattle.text_reading.proofs.BuildingLemmas.Numbers.{gives_still}
 use Rattle.text_reading.proofs.building.making.make_operation.Goals as goal
 
 pub fill_regions-requires-clause-op : goal.fill_regions-requires-clause-op

@@ -1,6 +1,6 @@
 use Rattle.std.specs.Prelude.{refl}
 use Rattle.std.proofs.lemmas.Result.{IfOk-weaker}
-use Rattle.text_reading.proofs.building.Opened.{opened}
+use Rattle.text_reading.proofs.BuildingLemmas.Opened.{opened}
 use Rattle.text_reading.proofs.building.making.open_block.Goals as goal
 
 pub returns-clause-opened : goal.returns-clause-opened

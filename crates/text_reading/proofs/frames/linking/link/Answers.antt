@@ -3,10 +3,10 @@ use Rattle.ir_program.specs.declared.handles.Ptr.{Ptr}
 use Rattle.ir_program.specs.declared.handles.Operation.{Operation}
 use Rattle.text_dialect.specs.Seen.{seen}
 use Rattle.text_reading.specs.building.Made.{LinksOperands}
-use Rattle.text_reading.proofs.building.Numbers.{gives_none, gives_still}
+use Rattle.text_reading.proofs.BuildingLemmas.Numbers.{gives_none, gives_still}
 use Rattle.text_reading.specs.frames.Linking.{AreMeant}
-use Rattle.text_reading.proofs.frames.Linked.{meant_later, first_later, links_first_none, links_all, links_next}
-use Rattle.text_reading.proofs.frames.Rising.{get_there}
+use Rattle.text_reading.proofs.FramesLemmas.Linked.{meant_later, first_later, links_first_none, links_all, links_next}
+use Rattle.text_reading.proofs.FramesLemmas.Rising.{get_there}
 use Rattle.text_reading.proofs.frames.linking.link.Goals as goal
 
 pub loop-index-init : goal.loop-index-init

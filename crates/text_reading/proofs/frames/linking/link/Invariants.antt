@@ -1,7 +1,7 @@
 use Rattle.std.proofs.Common.{◌≡◌}
 use Rattle.text_dialect.specs.Seen.{seen}
 use Rattle.text_reading.specs.building.Kept.{GivesNumbers}
-use Rattle.text_reading.proofs.frames.Linked.{LinksFirst, KeepsHeld}
+use Rattle.text_reading.proofs.FramesLemmas.Linked.{LinksFirst, KeepsHeld}
 use Rattle.text_reading.proofs.frames.linking.link.Given as goal
 
 -- the operations up to here have their operands

@@ -4,11 +4,11 @@ use Rattle.ir_program.specs.declared.handles.Value.{Value}
 use Rattle.text_dialect.specs.Seen.{seen}
 use Rattle.text_reading.specs.building.Loose.{IsDefinedValue}
 use Rattle.text_reading.specs.building.Made.{LinksOperands}
-use Rattle.text_reading.proofs.building.Later.{links_later, defined_later}
-use Rattle.text_reading.proofs.building.Linked.{links_none}
-use Rattle.text_reading.proofs.building.Numbers.{gives_none, gives_still}
-use Rattle.text_reading.proofs.frames.Linked.{named_value, one_defined, linked_more, holds_links}
-use Rattle.text_reading.proofs.frames.Opening.{as_many}
+use Rattle.text_reading.proofs.BuildingLemmas.Later.{links_later, defined_later}
+use Rattle.text_reading.proofs.BuildingLemmas.Linked.{links_none}
+use Rattle.text_reading.proofs.BuildingLemmas.Numbers.{gives_none, gives_still}
+use Rattle.text_reading.proofs.FramesLemmas.Linked.{named_value, one_defined, linked_more, holds_links}
+use Rattle.text_reading.proofs.FramesLemmas.Opening.{as_many}
 use Rattle.text_reading.proofs.frames.linking.link_one.Goals as goal
 use Rattle.text_reading.proofs.frames.linking.link_one.Goals.{in-Some+in_ok-link_operands, in_default}
 

@@ -1,7 +1,7 @@
 use Rattle.std.proofs.Common.{◌≡◌, ◌∙◌, ap, refl}
 use Rattle.ir_characters.specs.Texts.{codes_of}
 use Rattle.ir_names.specs.Text.{is_identifier}
-use Rattle.text_reading.proofs.frames.Bytes.{no_identifier}
+use Rattle.text_reading.proofs.FramesLemmas.Bytes.{no_identifier}
 use Rattle.text_reading.proofs.frames.making.identifier_of.Goals as goal
 
 pub returns-in-Err-clause-invalid : goal.returns-in-Err-clause-invalid

@@ -1,7 +1,7 @@
 use Rattle.std.proofs.Common.{◌≡◌, ℕ, Err, rules, refl, sym, ◌∙◌}
 use Rattle.text_dialect.specs.declared.dialect.MakeFault.TheVariants.{Refused}
-use Rattle.text_reading.proofs.building.ShownLater.{all_later}
-use Rattle.text_reading.proofs.frames.Opening.{keeps_keys}
+use Rattle.text_reading.proofs.BuildingLemmas.ShownLater.{all_later}
+use Rattle.text_reading.proofs.FramesLemmas.Opening.{keeps_keys}
 use Rattle.text_reading.proofs.frames.making.make_type.Goals as goal
 
 pub returns-in_err-key-clause-refused : goal.returns-in_err-key-clause-refused

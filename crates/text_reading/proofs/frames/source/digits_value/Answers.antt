@@ -2,7 +2,7 @@ use Rattle.std.proofs.Common.{◌≡◌, ℕ, ◌+◌, ◌*◌, ◌-◌, ◌≤�
 use Rattle.std.proofs.lemmas.List.{drop_all}
 use Rattle.ir_characters.specs.Texts.{codes_of}
 use Rattle.ir_forest.specs.Meaning.{digits, digits_from}
-use Rattle.text_reading.proofs.frames.Digits.{digits_grow, digits_next}
+use Rattle.text_reading.proofs.FramesLemmas.Digits.{digits_grow, digits_next}
 use Rattle.text_reading.proofs.frames.source.digits_value.Goals as goal
 
 pub returns-in_err-value : goal.returns-in_err-value

@@ -1,7 +1,7 @@
 use Rattle.std.proofs.Common.{rules, ◌≡◌, ◌-◌, ◌<◌, suc, length, sym, ap, ◌∙◌}
 use Rattle.std.proofs.lemmas.Option.{slice_get-get_or}
 use Rattle.text_reading.specs.frames.Waiting.{start_from}
-use Rattle.text_reading.proofs.frames.WaitingRows.{start_is}
+use Rattle.text_reading.proofs.FramesLemmas.WaitingRows.{start_is}
 use Rattle.text_reading.proofs.frames.waiting.start_of.Goals as goal
 
 pub returns-else-index-eq0 : goal.returns-else-index-eq0

@@ -1,4 +1,4 @@
-use Rattle.ir_opts.proofs.rewriting.Unlinked.{still_place}
+use Rattle.ir_opts.proofs.RewritingLemmas.Unlinked.{still_place}
 use Rattle.ir_opts.proofs.rewriting.rewriter.Rewriter.move_operation.Goals as goal
 
 pub put-requires-clause-place : goal.put-requires-clause-place

@@ -1,6 +1,6 @@
 use Rattle.std.proofs.Common.{◌∙◌, sym, ap}
 use Rattle.opt_inside.specs.facts.Folds.{fold_if}
-use Rattle.opt_inside.proofs.facts.Asked.{ok_then, row_within, row_at, row_live, fold_there}
+use Rattle.opt_inside.proofs.FactsLemmas.Asked.{ok_then, row_within, row_at, row_live, fold_there}
 use Rattle.opt_inside.proofs.facts.folding.ProgramFoldingFolding.fold.Goals as goal
 
 pub bounds-self-row : goal.bounds-self-row

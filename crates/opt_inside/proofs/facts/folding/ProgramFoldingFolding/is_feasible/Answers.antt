@@ -1,6 +1,6 @@
 use Rattle.std.proofs.Common.{◌∙◌, sym, ap}
 use Rattle.opt_inside.specs.facts.Folds.{feasible_if}
-use Rattle.opt_inside.proofs.facts.Asked.{row_within, row_at, row_live, feasible_there}
+use Rattle.opt_inside.proofs.FactsLemmas.Asked.{row_within, row_at, row_live, feasible_there}
 use Rattle.opt_inside.proofs.facts.folding.ProgramFoldingFolding.is_feasible.Goals as goal
 
 pub bounds-self-row : goal.bounds-self-row

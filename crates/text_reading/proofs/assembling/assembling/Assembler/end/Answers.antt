@@ -1,7 +1,7 @@
 use Rattle.std.proofs.Common.{[], ◌∷◌, ◌++◌, ap, sym, refl, ◌∙◌}
-use Rattle.text_reading.proofs.frames.Holding.{ends_with, ends_refused}
-use Rattle.text_reading.proofs.frames.Opening.{keeps_keys}
-use Rattle.text_reading.proofs.assembling.Stepped.{ok_case}
+use Rattle.text_reading.proofs.FramesLemmas.Holding.{ends_with, ends_refused}
+use Rattle.text_reading.proofs.FramesLemmas.Opening.{keeps_keys}
+use Rattle.text_reading.proofs.AssemblingLemmas.Stepped.{ok_case}
 use Rattle.text_reading.proofs.assembling.assembling.Assembler.end.Goals as goal
 
 pub end_in-requires : goal.end_in-requires

@@ -1,7 +1,7 @@
 use Rattle.std.proofs.Common.{ap, Err}
 use Rattle.std.proofs.lemmas.Result.{on_ok_weaker}
 use Rattle.ir_print.specs.Shown.{ShowsParts}
-use Rattle.text_reading.proofs.frames.Opening.{refused_at_piece}
+use Rattle.text_reading.proofs.FramesLemmas.Opening.{refused_at_piece}
 use Rattle.text_reading.proofs.assembling.assembling.Assembler.end_attribute.Goals as goal
 
 pub returns-in-Ok-clause-made : goal.returns-in-Ok-clause-made

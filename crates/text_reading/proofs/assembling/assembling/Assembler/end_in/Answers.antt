@@ -1,14 +1,14 @@
 use Rattle.std.proofs.Common.{◌∙◌, ◌++◌, ◌∷◌, [], ap, refl, sym}
 use Rattle.std.proofs.lemmas.Result.{on_ok_weaker}
 use Rattle.text_reading.specs.declared.frames.opened.Body.TheVariants as body
-use Rattle.text_reading.proofs.frames.Ended.{in_it, outer_list, outer_of_region, outer_of_operands, outer_region, ended_type, ended_attribute, ended_list, ended_item, ended_operation, ended_operands, ended_region, ended_block, type_refused, attribute_refused, operation_refused}
-use Rattle.text_reading.proofs.assembling.RaisingBlocks.{list_around, operation_around, text_stays, nothing_made, region_raised, block_raised}
-use Rattle.text_reading.proofs.frames.Opening.{interned_same, keeps_keys}
-use Rattle.text_reading.proofs.assembling.RaisingOperations.{operation_can, operation_full, operation_raised, operation_shown}
-use Rattle.text_reading.proofs.assembling.ReadContents.{parts_read, says_read}
-use Rattle.text_reading.proofs.assembling.Stepped.{on_ok_both}
-use Rattle.text_reading.proofs.assembling.Undone.{on_err_any, undone_so}
-use Rattle.text_reading.proofs.assembling.RaisingValues.{type_raised, attribute_raised, list_raised, item_raised, operands_raised}
+use Rattle.text_reading.proofs.FramesLemmas.Ended.{in_it, outer_list, outer_of_region, outer_of_operands, outer_region, ended_type, ended_attribute, ended_list, ended_item, ended_operation, ended_operands, ended_region, ended_block, type_refused, attribute_refused, operation_refused}
+use Rattle.text_reading.proofs.AssemblingLemmas.RaisingBlocks.{list_around, operation_around, text_stays, nothing_made, region_raised, block_raised}
+use Rattle.text_reading.proofs.FramesLemmas.Opening.{interned_same, keeps_keys}
+use Rattle.text_reading.proofs.AssemblingLemmas.RaisingOperations.{operation_can, operation_full, operation_raised, operation_shown}
+use Rattle.text_reading.proofs.AssemblingLemmas.ReadContents.{parts_read, says_read}
+use Rattle.text_reading.proofs.AssemblingLemmas.Stepped.{on_ok_both}
+use Rattle.text_reading.proofs.AssemblingLemmas.Undone.{on_err_any, undone_so}
+use Rattle.text_reading.proofs.AssemblingLemmas.RaisingValues.{type_raised, attribute_raised, list_raised, item_raised, operands_raised}
 use Rattle.text_reading.proofs.assembling.assembling.Assembler.end_in.Goals as goal
 
 pub returns-in-Type-clause-ended : goal.returns-in-Type-clause-ended

@@ -1,7 +1,7 @@
 use Rattle.std.proofs.Common.{◌≡◌, ◌∙◌, ◌++◌, ap, rules}
 use Rattle.std.proofs.lemmas.Result.{on_ok_weaker}
 use Rattle.ir_print.specs.declared.format.Part.TheVariants as part
-use Rattle.text_reading.proofs.frames.Opening.{put_with_body}
+use Rattle.text_reading.proofs.FramesLemmas.Opening.{put_with_body}
 use Rattle.text_reading.proofs.assembling.assembling.Assembler.end_operands.Goals as goal
 use Rattle.text_reading.proofs.assembling.assembling.Assembler.end_operands.Goals.{in-Operation+in_ok-extend_from_slice, in_default}
 

@@ -9,18 +9,18 @@ use Rattle.ir_program.specs.declared.handles.BasicBlock.{BasicBlock}
 use Rattle.ir_program.specs.declared.handles.IRNode.{IRNode}
 use Rattle.ir_program.specs.declared.handles.Ptr.{Ptr}
 use Rattle.ir_program.specs.declared.handles.DefiningEntity.TheVariants.{Op as ByOp}
-use Rattle.text_reading.proofs.building.Linked.{values_seen}
+use Rattle.text_reading.proofs.BuildingLemmas.Linked.{values_seen}
 use Rattle.text_reading.specs.building.Made.{lists_of}
 use Rattle.text_dialect.specs.Seen.{seen}
 use Rattle.text_reading.specs.frames.Raised.{block_nodes}
 use Rattle.text_reading.specs.frames.Worlds.{joined}
 use Rattle.text_reading.specs.frames.Waiting.{Pending}
 use Rattle.text_reading.specs.assembling.Steps.{new_root}
-use Rattle.text_reading.proofs.assembling.Gathering.{errors_same}
-use Rattle.text_reading.proofs.frames.Defining.{results_made, values_made}
-use Rattle.text_reading.proofs.frames.Opening.{as_many, handed_on, interned_same, refused_at_piece, shown_known}
-use Rattle.text_reading.proofs.assembling.Operating.{can_still, erased_so, gives_so, growth_full, makes_so, open_after, operation_full_so, payloads_so}
-use Rattle.text_reading.proofs.assembling.Undone.{on_err_any, same_both, undone_so}
+use Rattle.text_reading.proofs.AssemblingLemmas.Gathering.{errors_same}
+use Rattle.text_reading.proofs.FramesLemmas.Defining.{results_made, values_made}
+use Rattle.text_reading.proofs.FramesLemmas.Opening.{as_many, handed_on, interned_same, refused_at_piece, shown_known}
+use Rattle.text_reading.proofs.AssemblingLemmas.Operating.{can_still, erased_so, gives_so, growth_full, makes_so, open_after, operation_full_so, payloads_so}
+use Rattle.text_reading.proofs.AssemblingLemmas.Undone.{on_err_any, same_both, undone_so}
 use Rattle.text_reading.proofs.assembling.assembling.Assembler.end_operation.Goals as goal
 
 pub returns-in-Err-clause-refused : goal.returns-in-Err-clause-refused

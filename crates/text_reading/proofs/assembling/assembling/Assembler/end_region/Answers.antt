@@ -1,6 +1,6 @@
 use Rattle.std.proofs.Common.{ap, refl}
 use Rattle.std.proofs.lemmas.Result.{on_ok_weaker}
-use Rattle.text_reading.proofs.frames.Opening.{put_with_body}
+use Rattle.text_reading.proofs.FramesLemmas.Opening.{put_with_body}
 use Rattle.text_reading.proofs.assembling.assembling.Assembler.end_region.Goals as goal
 use Rattle.text_reading.proofs.assembling.assembling.Assembler.end_region.Goals.{in-Operation+in_ok-push, in_default}
 

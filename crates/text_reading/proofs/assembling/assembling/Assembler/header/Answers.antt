@@ -6,9 +6,9 @@ use Rattle.ir_program.specs.Program.{arguments_at}
 use Rattle.ir_program.specs.declared.handles.DefiningEntity.TheVariants.{Block as ByBlock}
 use Rattle.ir_program.specs.declared.handles.IRNode.{IRNode}
 use Rattle.ir_program.specs.declared.handles.IRNode.TheVariants.{BasicBlock as BlockNode}
-use Rattle.text_reading.proofs.building.Linked.{values_seen}
+use Rattle.text_reading.proofs.BuildingLemmas.Linked.{values_seen}
 use Rattle.text_reading.specs.frames.Makes.{types_in}
-use Rattle.text_reading.proofs.frames.Defining.{arguments_made, values_made}
+use Rattle.text_reading.proofs.FramesLemmas.Defining.{arguments_made, values_made}
 use Rattle.text_reading.proofs.assembling.assembling.Assembler.header.Goals as goal
 
 pub returns-clause-made : goal.returns-clause-made

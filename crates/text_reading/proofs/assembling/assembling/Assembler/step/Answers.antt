@@ -1,14 +1,14 @@
 use Rattle.std.proofs.Common.{◌≡◌, ◌-◌, ◌∙◌, true, sym, ap, subst}
 use Rattle.std.proofs.lemmas.Result.{on_err_weaker, on_ok_weaker}
 use Rattle.ir_characters.specs.Texts.{codes_of}
-use Rattle.text_reading.proofs.assembling.Undone.{undoes_loose}
+use Rattle.text_reading.proofs.AssemblingLemmas.Undone.{undoes_loose}
 use Rattle.ir_names.specs.Text.{is_identifier}
 use Rattle.ir_grammar.specs.declared.grammar.Action.TheVariants as act
 use Rattle.ir_forest.specs.Identifiers.{IsSpelt}
 use Rattle.ir_tokens.specs.Tokens.{text_between}
-use Rattle.text_reading.proofs.frames.Moving.{is_number, is_width}
-use Rattle.text_reading.proofs.assembling.Stepping.{end_refused}
-use Rattle.text_reading.proofs.assembling.Stepped.{on_ok_both, stepped, stepped_result, stepped_argument, stepped_operand, stepped_name, stepped_number, stepped_width, stepped_operation, stepped_region, stepped_block, stepped_operands, stepped_type, stepped_attribute, stepped_list, stepped_item, stepped_header, stepped_end, ok_case, goes_out, can_header, header_is_full}
+use Rattle.text_reading.proofs.FramesLemmas.Moving.{is_number, is_width}
+use Rattle.text_reading.proofs.AssemblingLemmas.Stepping.{end_refused}
+use Rattle.text_reading.proofs.AssemblingLemmas.Stepped.{on_ok_both, stepped, stepped_result, stepped_argument, stepped_operand, stepped_name, stepped_number, stepped_width, stepped_operation, stepped_region, stepped_block, stepped_operands, stepped_type, stepped_attribute, stepped_list, stepped_item, stepped_header, stepped_end, ok_case, goes_out, can_header, header_is_full}
 use Rattle.text_reading.proofs.assembling.assembling.Assembler.step.Goals as goal
 
 pub returns-in-Result-clause-went : goal.returns-in-Result-clause-went

@@ -1,6 +1,6 @@
 use Rattle.std.proofs.Common.{rules, ◌≡◌, ◌∙◌, length, sym, ap}
 use Rattle.text_reading.specs.frames.Waiting.{Waiting}
-use Rattle.text_reading.proofs.frames.WaitingRows.{as_many_wait}
+use Rattle.text_reading.proofs.FramesLemmas.WaitingRows.{as_many_wait}
 use Rattle.text_reading.proofs.frames.waiting.WaitingOperands.len.Goals as goal
 
 pub returns : goal.returns

@@ -1,6 +1,6 @@
 use Rattle.std.proofs.Common.{rules, ◌≡◌, length, get_or, ap, vec_len, arith}
 use Rattle.text_reading.specs.frames.Waiting.{Waiting}
-use Rattle.text_reading.proofs.frames.WaitingRows.{op_found, row_below, row_read}
+use Rattle.text_reading.proofs.FramesLemmas.WaitingRows.{op_found, row_below, row_read}
 use Rattle.text_reading.proofs.frames.waiting.WaitingOperands.op.Goals as goal
 
 pub index-requires : goal.index-requires

@@ -2,7 +2,7 @@ use Rattle.std.proofs.Common.{rules, ◌≡◌, ◌++◌, ◌∷◌, [], ℕ, Li
 use Rattle.std.proofs.lemmas.List.{length-append}
 use Rattle.text_reading.specs.frames.Waiting.{Waiting, waiting_from, AreRowEnds}
 use Rattle.text_reading.specs.declared.frames.waiting.WaitingRow.{WaitingRow}
-use Rattle.text_reading.proofs.frames.WaitingRows.{ends_more, one_more_waits}
+use Rattle.text_reading.proofs.FramesLemmas.WaitingRows.{ends_more, one_more_waits}
 use Rattle.text_reading.proofs.frames.waiting.WaitingOperands.push_reserved.Goals as goal
 
 pub invariant_of-self : goal.invariant_of-self

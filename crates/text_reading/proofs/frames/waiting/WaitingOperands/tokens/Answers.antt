@@ -1,7 +1,7 @@
 use Rattle.std.proofs.Common.{rules, ◌≡◌, ◌≤◌, ℕ, List, length, get_or, ap, vec_len, arith}
 use Rattle.text_reading.specs.frames.Waiting.{Waiting}
 use Rattle.text_reading.specs.declared.frames.waiting.WaitingRow.{WaitingRow}
-use Rattle.text_reading.proofs.frames.WaitingRows.{row_below, row_read, tokens_found, tokens_inside}
+use Rattle.text_reading.proofs.FramesLemmas.WaitingRows.{row_below, row_read, tokens_found, tokens_inside}
 use Rattle.text_reading.proofs.frames.waiting.WaitingOperands.tokens.Goals as goal
 
 pub start_of-start-requires : goal.start_of-start-requires
