@@ -12,9 +12,9 @@ use Rattle.ir_trees.specs.Stands.{by_handle, in_program, ProgramTree, StandsFor}
 use Rattle.opt_trees.specs.Dialect.{Dialect}
 use Rattle.opt_trees.specs.Simplify.{all_of, decided}
 use Rattle.opt_inside.specs.Outside.{AddsNoneOutside, KeepsOutside, ChangesOperandsOutside}
-use Rattle.ir_opts.specs.decisions.Phase.{DecidesBranches, BringsNoneInside, maps_of}
-use Rattle.ir_opts.specs.unreached.Phases.{RemovesBlocks}
-use Rattle.ir_opts.specs.chains.Phases.{MergesBlocks}
+use Rattle.opt_decide.specs.Phase.{DecidesBranches, BringsNoneInside, maps_of}
+use Rattle.opt_simplify.specs.Phases.{RemovesBlocks}
+use Rattle.opt_chains.specs.Phases.{MergesBlocks}
 use Rattle.ir_opts.specs.SimplifiedTree.{SimplifiesTree}
 use Rattle.ir_opts.proofs.SimplifiedNames.{CutsAndJoins, renamed_back, done_back, simplified_by}
 

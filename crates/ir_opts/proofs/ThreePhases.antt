@@ -14,8 +14,8 @@ use Rattle.opt_dialect.specs.declared.status.OptError.{OptError}
 use Rattle.opt_dialect.specs.declared.status.OptError.TheVariants.{LiveUse, Memory}
 use Rattle.opt_inside.specs.reach.Starts.{IsStartIn}
 use Rattle.opt_inside.specs.declared.reach.starts.Start.TheVariants.{Operation as AtOperation}
-use Rattle.ir_opts.specs.decisions.Phase.{HasNoneDecided}
-use Rattle.ir_opts.specs.unreached.Refusals.{HasNoneUnreached, LosesUses}
+use Rattle.opt_decide.specs.Phase.{HasNoneDecided}
+use Rattle.opt_simplify.specs.Refusals.{HasNoneUnreached, LosesUses}
 use Rattle.ir_opts.specs.joining.Answers.{HasCircle, HasNoneJoinable}
 use Rattle.ir_opts.specs.Simplified.{Decides, HasNothingToDo, Removes, StopsAt, while_removing, loses_uses, while_joining, comes_back}
 

@@ -15,10 +15,10 @@ use Rattle.opt_dialect.specs.declared.status.OptError.TheVariants.{LiveUse, Memo
 use Rattle.opt_inside.specs.reach.Starts.{IsStartIn}
 use Rattle.opt_inside.specs.declared.reach.starts.Start.{Start}
 use Rattle.opt_inside.specs.declared.reach.starts.Start.TheVariants.{Operation as AtOperation, Block as AtBlock, Region as AtRegion}
-use Rattle.ir_opts.specs.chains.Phases.{MergesBlocks}
+use Rattle.opt_chains.specs.Phases.{MergesBlocks}
 use Rattle.ir_opts.specs.joining.Answers.{HasCircle, HasNoCircle, HasNoneJoinable}
-use Rattle.ir_opts.specs.unreached.Phases.{RemovesBlocks}
-use Rattle.ir_opts.specs.unreached.Refusals.{HasNoneUnreached, LosesNone, LosesUses}
+use Rattle.opt_simplify.specs.Phases.{RemovesBlocks}
+use Rattle.opt_simplify.specs.Refusals.{HasNoneUnreached, LosesNone, LosesUses}
 
 -- the operation that holds the place: itself, or the one in whose region the block is, or whose region it is
 abbrev pub IsRootOf : {O B : Type 0} → Program O B → Start → Ptr Operation → Type 0

@@ -9,10 +9,10 @@ use Rattle.opt_trees.specs.Simplify.{all_of}
 use Rattle.opt_dialect.specs.declared.status.OptError.{OptError}
 use Rattle.opt_dialect.specs.declared.status.OptError.TheVariants.{LiveUse, Memory}
 use Rattle.opt_inside.specs.declared.reach.starts.Start.TheVariants.{Operation as AtOperation}
-use Rattle.ir_opts.specs.decisions.Phase.{CarriesOutPart, DecidesBranches, HasNoneDecided}
-use Rattle.ir_opts.specs.unreached.Phases.{RemovesBlocks}
-use Rattle.ir_opts.specs.unreached.Refusals.{HasNoneUnreached, LosesNone, LosesUses}
-use Rattle.ir_opts.specs.chains.Phases.{MergesBlocks}
+use Rattle.opt_decide.specs.Phase.{CarriesOutPart, DecidesBranches, HasNoneDecided}
+use Rattle.opt_simplify.specs.Phases.{RemovesBlocks}
+use Rattle.opt_simplify.specs.Refusals.{HasNoneUnreached, LosesNone, LosesUses}
+use Rattle.opt_chains.specs.Phases.{MergesBlocks}
 use Rattle.ir_opts.specs.joining.Answers.{HasCircle, HasNoCircle, HasNoneJoinable}
 
 module _ {O B A : Type 0} (d : Dialect (in_program O B) A) where

@@ -10,7 +10,7 @@ use Rattle.opt_trees.specs.Dialect.{Dialect}
 use Rattle.opt_trees.specs.Simplify.{IsSimplify}
 use Rattle.opt_inside.specs.Around.{SaysAround}
 use Rattle.opt_inside.specs.Outside.{AddsNoneOutside, ChangesOperandsOutside}
-use Rattle.ir_opts.specs.decisions.Phase.{maps_of}
+use Rattle.opt_decide.specs.Phase.{maps_of}
 
 -- the operation stands for its tree, simplified, up to the handles of new branches: each of these, which led nowhere,
 -- and the handle of the branch in whose place it is change places. What isn't inside the operation is as it was, but

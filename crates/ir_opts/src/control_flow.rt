@@ -7,14 +7,14 @@ ghost use Rattle.ir_opts.specs.SimplifiedTree.{SimplifiesTree};
 ghost use Rattle.opt_dialect.specs.declared.status.IRStatus.TheVariants.{Unchanged};
 ghost use Rattle.opt_inside.specs.Edges.{FitsEdgesBelow, HasLocalEdgesBelow};
 
-use crate::decisions::decide_branches;
 use crate::joining::merge_chains;
-use crate::unreached::remove_unreached;
 use ir_context::{TypeTable, TypedProgram};
 use ir_program::{Operation, Ptr};
 use ir_trees::know_tree;
+use opt_decide::decide_branches;
 use opt_dialect::{IRStatus, OptDialect, OptError};
 use opt_inside::reach::{Start, know_edges_under};
+use opt_simplify::remove_unreached;
 use std::alloc::Global;
 
 /// Simplifies control flow below an operation, in three phases. Branches become unconditional where their operands

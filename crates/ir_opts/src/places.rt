@@ -10,11 +10,11 @@ ghost use Rattle.opt_inside.specs.declared.reach.starts.Start.TheVariants as sta
 ghost use Rattle.ir_opts.specs.rewriting.Points.{LeavesErased};
 
 use crate::rewriting::Rewriter;
-use crate::unreached::remove_unreached;
 use ir_context::{TypeTable, TypedProgram};
 use ir_program::{BasicBlock, Operation, Program, Ptr, Region};
 use opt_dialect::{IRStatus, OptDialect, OptError};
 use opt_inside::reach::Start;
+use opt_simplify::remove_unreached;
 use std::alloc::Global;
 
 /// The operation in whose region a block is.

@@ -1,7 +1,7 @@
 //! Tests of dictionaries of attributes.
 use crate::asserting::same;
-use crate::scripts::tiny::{Tiny, TinyAttr};
 use ir_names::{AttributeDict, Identifier, IdentifierError};
+use ir_scripts::tiny::{Tiny, TinyAttr};
 use std::alloc::{AllocError, Global};
 use std::hash::{FoldHasher, Hash, Hasher};
 use std::process::Abort;

@@ -2,11 +2,11 @@
 ghost use Rattle.std.specs.Prelude.{◌≡◌, IfOk, OnOk, IsSome};
 ghost use Rattle.ir_program.specs.Program.{operation_at};
 
-use crate::scripts::finish;
-use crate::scripts::tiny::{Tiny, TinyOp};
 use ir_core::{
     BasicBlock, Context, GrowError, NewBlock, NewOperation, Operation, Ptr, Region, Room,
 };
+use ir_scripts::finish;
+use ir_scripts::tiny::{Tiny, TinyOp};
 use std::alloc::{AllocError, Global};
 use std::test::Fail;
 

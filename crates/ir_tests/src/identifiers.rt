@@ -1,10 +1,10 @@
 //! Tests of identifiers and names. What a test looks at comes as an argument, so that proofs compute nothing of it.
 use crate::asserting::same;
-use crate::scripts::tiny::{Tiny, TinyAttr};
 use ir_names::{
     AttrName, DialectName, Dialects, GrowError, Identifier, IdentifierError, InvalidIdentifier,
     Legaliser, OpId, OpName, Place, TypeHandle, TypeName,
 };
+use ir_scripts::tiny::{Tiny, TinyAttr};
 use std::alloc::{AllocError, Global};
 use std::process::Abort;
 use std::test::Fail;

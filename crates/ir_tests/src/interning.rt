@@ -4,10 +4,10 @@ ghost use Rattle.ir_types.specs.Interned.{IsKnown};
 ghost use Rattle.ir_types.specs.Lends.{with_body};
 
 use crate::asserting::same;
-use crate::scripts::tiny::{
+use ir_names::{AttrInterface, OpInterface, TypeHandle, TypeInterface};
+use ir_scripts::tiny::{
     IntegerType, NamedType, Tiny, TinyAttr, TinyLocation, TinyOp, TinyType, TinyTypeKind,
 };
-use ir_names::{AttrInterface, OpInterface, TypeHandle, TypeInterface};
 use ir_types::{DialectTables, TypeInterfaceHandleErr, TypedHandleErr, Types};
 use std::alloc::{AllocError, Global};
 use std::process::Abort;

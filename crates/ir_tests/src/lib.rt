@@ -45,8 +45,6 @@ mod row_edits;
 #[cfg(test)]
 mod rows;
 #[cfg(test)]
-mod scripts;
-#[cfg(test)]
 mod standing;
 #[cfg(test)]
 mod traversals;

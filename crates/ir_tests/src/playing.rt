@@ -1,5 +1,5 @@
 //! Scripts as tests.
-use crate::scripts::play;
+use ir_scripts::play;
 use std::alloc::Global;
 use std::process::Abort;
 use std::test::Fail;

@@ -1,13 +1,13 @@
 //! Types, saved values, and what their markers say.
 use crate::asserting::same;
-use crate::scripts::finish;
-use crate::scripts::markers::{Function, Jump, Terminator, TypedAttribute};
-use crate::scripts::tiny::{IntegerType, NamedType, Tiny, TinyAttr, TinyOp, TinyType};
 use ir_core::{
     AttributeDict, AttributeLookups, Context, CoreError, Identifier, IdentifierError, Instantiate,
     InvalidIdentifier, TypeCalls, TypeHandle, TypeInterfaceHandle, TypedHandle, Uniqued,
     attr_impls, attr_type, ident, op_impls, op_impls_static, type_impls,
 };
+use ir_scripts::finish;
+use ir_scripts::markers::{Function, Jump, Terminator, TypedAttribute};
+use ir_scripts::tiny::{IntegerType, NamedType, Tiny, TinyAttr, TinyOp, TinyType};
 use std::alloc::{AllocError, Global};
 use std::process::Abort;
 use std::test::Fail;

@@ -19,9 +19,9 @@ use Rattle.kit_ruled_passes.specs.Entering.{IsEnteredNowhere}
 use Rattle.kit_ruled_views.specs.Functions.{KitContext, IsSelfContained}
 use Rattle.kit_ruled_views.specs.Ruled.{KitTree}
 use Rattle.kit.specs.Says.{says}
-use Rattle.text_reading.specs.building.Kept.{SameSeen}
+use Rattle.text_frames.specs.building.Kept.{SameSeen}
 use Rattle.text_dialect.specs.Seen.{Seen, seen}
-use Rattle.text_reading.specs.frames.Raised.{HoldsAllNew}
+use Rattle.text_frames.specs.Raised.{HoldsAllNew}
 use Rattle.text_reading.specs.Understood.{IsRead}
 use Rattle.irkit_streams.specs.Ends.{Decodes, EndsReading, GaveAll}
 use Rattle.irkit_streams.specs.declared.faults.DecodeFault.{DecodeFault}

@@ -14,12 +14,12 @@ use Rattle.opt_inside.specs.Occurring.{IsDefinedBelow}
 use Rattle.opt_inside.proofs.Added.{HasValues, definer_of}
 use Rattle.opt_inside.proofs.Among.{results_are, arguments_are}
 use Rattle.opt_trees.specs.Occurrences.{Has}
-use Rattle.text_reading.specs.building.Inside.{IsInsideSome}
-use Rattle.text_reading.proofs.BuildingLemmas.Discarded.{used_since}
-use Rattle.text_reading.proofs.BuildingLemmas.Insides.{one_some, some_one}
-use Rattle.text_reading.proofs.BuildingLemmas.Stood.{HasLists, seen_stands, stands_seen}
+use Rattle.text_frames.specs.building.Inside.{IsInsideSome}
+use Rattle.text_frames.proofs.BuildingLemmas.Discarded.{used_since}
+use Rattle.text_frames.proofs.BuildingLemmas.Insides.{one_some, some_one}
+use Rattle.text_frames.proofs.BuildingLemmas.Stood.{HasLists, seen_stands, stands_seen}
 use Rattle.text_dialect.specs.Seen.{seen, seen_operation}
-use Rattle.text_reading.specs.frames.Raised.{HoldsAllNew}
+use Rattle.text_frames.specs.Raised.{HoldsAllNew}
 use Rattle.kit.specs.Meaning.{KitOperation}
 use Rattle.kit_ruled_passes.specs.Entering.{IsEnteredNowhere}
 use Rattle.kit_ruled_views.specs.Functions.{KitContext, IsSelfContained}

@@ -11,9 +11,9 @@ use Rattle.kit_ruled_passes.specs.Held.{HoldsModule}
 use Rattle.kit_optimiser.specs.Passed.{FillsUp, pass_of}
 use Rattle.kit_ops.specs.declared.pass.KitPass.{KitPass}
 use Rattle.kit_ruled_views.specs.Functions.{KitContext}
-use Rattle.text_reading.specs.building.Kept.{SameSeen}
+use Rattle.text_frames.specs.building.Kept.{SameSeen}
 use Rattle.text_dialect.specs.Seen.{seen}
-use Rattle.text_reading.specs.frames.Raised.{HoldsAllNew}
+use Rattle.text_frames.specs.Raised.{HoldsAllNew}
 use Rattle.irkit_streams.specs.declared.watched.Watched.{Watched}
 use Rattle.irkit_streams.specs.Streams.{has_failed}
 use Rattle.irkit_streams.specs.Ends.{FailsReading, GaveAll, TookAll, TookFirst}

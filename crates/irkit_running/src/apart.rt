@@ -5,7 +5,7 @@ ghost use Rattle.irkit_running.specs.Known.{KitSeen};
 ghost use Rattle.kit_ruled_passes.specs.Entering.{IsEnteredNowhere};
 ghost use Rattle.kit_ruled_views.specs.Functions.{IsSelfContained};
 ghost use Rattle.text_dialect.specs.Seen.{seen};
-ghost use Rattle.text_reading.specs.frames.Raised.{HoldsAllNew};
+ghost use Rattle.text_frames.specs.Raised.{HoldsAllNew};
 
 use ir_context::Context;
 use ir_program::{Operation, Ptr};

@@ -1,7 +1,7 @@
 //! From a reader to a module of a context.
 ghost use Rattle.std.specs.Prelude.{◌≡◌, false, IfOk};
 ghost use Rattle.ir_program.specs.Edits.{KeepsErased};
-ghost use Rattle.text_reading.specs.building.Kept.{KeepsPayloads};
+ghost use Rattle.text_frames.specs.building.Kept.{KeepsPayloads};
 ghost use Rattle.irkit_streams.specs.Streams.{has_failed};
 ghost use Rattle.irkit_running.specs.Known.{CanBeWritten, HasGrammar};
 ghost use Rattle.irkit_running.specs.Outcomes.{EndsLoad, Understands};

@@ -16,7 +16,7 @@ use Rattle.ir_program.proofs.made.Frames.{same_or_not}
 use Rattle.ir_trees.specs.Renames.{names_of}
 use Rattle.ir_trees.specs.Stands.{StandsFor, ProgramHead, ProgramLabel}
 use Rattle.ir_trees.proofs.Members.{has_at}
-use Rattle.ir_opts.specs.decisions.Phase.{BringsNoneInside, CarriesOutPart}
+use Rattle.opt_decide.specs.Phase.{BringsNoneInside, CarriesOutPart}
 use Rattle.opt_dialect.specs.declared.status.IRStatus.{IRStatus}
 use Rattle.opt_dialect.specs.declared.status.OptError.{OptError}
 use Rattle.opt_inside.specs.Around.{IsTakenOutside}
@@ -25,8 +25,8 @@ use Rattle.opt_inside.specs.Outside.{AddsNoneOutside, ChangesOperandsOutside, Ke
 use Rattle.opt_inside.proofs.Around.{HasLists, around_operation, around_region}
 use Rattle.opt_inside.proofs.Values.{defined}
 use Rattle.opt_inside.proofs.Walked.{sound, blocks_sound}
-use Rattle.ir_opts.specs.propagation.Puts.{PutsConstants}
-use Rattle.ir_opts.specs.propagation.Sccp.{Propagates, PropagatesPart}
+use Rattle.opt_sccp.specs.Puts.{PutsConstants}
+use Rattle.opt_sccp.specs.Sccp.{Propagates, PropagatesPart}
 use Rattle.opt_trees.specs.Occurrences.{Has, at_root}
 use Rattle.opt_trees.specs.Sccp.{IsArgument, IsResult, used_as}
 use Rattle.opt_trees.specs.Simplify.{Follows, all_of, decide, goes_on, keep, stops}

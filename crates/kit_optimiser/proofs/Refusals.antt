@@ -10,8 +10,8 @@ use Rattle.kit_ruled_passes.specs.Scopes.{KitProgram}
 use Rattle.opt_dialect.specs.declared.status.OptError.{OptError}
 use Rattle.opt_dialect.specs.Statuses.{error_of}
 use Rattle.opt_dialect.specs.declared.status.OptError.TheVariants.{Memory, CounterFull, LiveUse, UndeterminedOperand}
-use Rattle.ir_opts.specs.propagation.Made.{IsShortage}
-use Rattle.ir_opts.specs.propagation.Sccp.{IsSccpRefusal}
+use Rattle.opt_sccp.specs.Made.{IsShortage}
+use Rattle.opt_sccp.specs.Sccp.{IsSccpRefusal}
 
 pub only_short : (e : OptError) → IsSccpRefusal e → (e ≡ UndeterminedOperand → ⊥) → IsShortage e
 only_short e (inl short) never = short

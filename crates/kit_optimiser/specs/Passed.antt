@@ -13,7 +13,7 @@ use Rattle.kit_ops.specs.declared.pass.KitPass.TheVariants as passes
 use Rattle.kit_ruled_views.specs.Functions.{KitContext}
 use Rattle.kit_ruled_views.specs.Ruled.{KitTree}
 use Rattle.kit_writable_trees.specs.Writable.{IsWritableRoot}
-use Rattle.ir_opts.specs.propagation.Sccp.{MovesCounterTo}
+use Rattle.opt_sccp.specs.Sccp.{MovesCounterTo}
 
 -- the pass on programs that it is
 abbrev pub pass_of : KitPass → Pass

@@ -5,11 +5,11 @@ ghost use Rattle.kit.specs.Meaning.{kit};
 ghost use Rattle.kit_ruled_passes.specs.Held.{HoldsModule};
 ghost use Rattle.kit_optimiser.specs.Outside.{KeepsRest, LeavesRest};
 ghost use Rattle.kit_ruled_passes.specs.Scopes.{KitProgram};
-ghost use Rattle.ir_opts.specs.elimination.Thins.{IsOutcome};
+ghost use Rattle.opt_dce.specs.Thins.{IsOutcome};
 ghost use Rattle.opt_dialect.specs.declared.status.IRStatus.{IRStatus};
 ghost use Rattle.opt_dialect.specs.declared.status.OptError.{OptError};
 ghost use Rattle.opt_inside.specs.Occurring.{OfItsTree};
-ghost use Rattle.ir_opts.specs.propagation.Sccp.{IsPartlyPropagated, IsPropagated};
+ghost use Rattle.opt_sccp.specs.Sccp.{IsPartlyPropagated, IsPropagated};
 
 use ir_context::Context;
 use ir_program::{Operation, Ptr};

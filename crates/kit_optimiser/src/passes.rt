@@ -7,7 +7,7 @@ ghost use Rattle.kit_optimiser.specs.Outside.{KeepsRest, StaysOutside};
 ghost use Rattle.kit_optimiser.specs.Passed.{CountsTo, IsPassed, StopsFull};
 ghost use Rattle.opt_inside.specs.Outside.{AddsNoneOutside};
 ghost use Rattle.opt_dialect.specs.Statuses.{error_of};
-ghost use Rattle.ir_opts.specs.propagation.Made.{IsShortage};
+ghost use Rattle.opt_sccp.specs.Made.{IsShortage};
 
 use crate::outside::know_rest;
 use ir_base::GrowError;

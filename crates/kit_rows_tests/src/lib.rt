@@ -11,8 +11,6 @@ mod flat_modules;
 #[cfg(test)]
 mod flat_runs;
 #[cfg(test)]
-mod module_reader;
-#[cfg(test)]
 mod optimising;
 #[cfg(test)]
 mod passes;

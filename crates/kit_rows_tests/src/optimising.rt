@@ -4,7 +4,6 @@ ghost use Rattle.ir_program.specs.Program.{operation_at};
 ghost use Rattle.opt_inside.specs.facts.ByNumber.{LeadsBelow};
 ghost use Rattle.opt_inside.specs.Edges.{FitsEdgesBelow, HasLocalEdgesBelow};
 
-use crate::module_reader::Unread;
 use ir_context::{Context, OperationCalls, TypeTable, TypedProgram};
 use ir_opts::{
     Meanings, OptError, Start, dce, fits_edges_from, has_local_edges_below, know_edges_under, sccp,
@@ -13,6 +12,7 @@ use ir_opts::{
 use ir_program::{Operation, Ptr};
 use ir_types::Types;
 use kit::Kit;
+use kit_module_reader::Unread;
 use std::alloc::Global;
 
 /// An optimisation.

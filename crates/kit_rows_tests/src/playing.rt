@@ -1,5 +1,4 @@
 //! What becomes of a module that is read from a text: verdicts, what optimisations make of it, and runs.
-use crate::module_reader::{Unread, read, write_number, written};
 use crate::optimising::{Pass, optimise_all};
 use ir_context::{Context, OperationCalls};
 use ir_names::Identifier;
@@ -9,6 +8,7 @@ use kit_checks::RuleFault;
 use kit_execution::execute;
 use kit_flat::Outcome;
 use kit_interpreter::ExecFault;
+use kit_module_reader::{Unread, read, write_number, written};
 use kit_verifier::verify_module;
 use std::alloc::{AllocError, Global};
 

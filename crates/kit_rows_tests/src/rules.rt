@@ -1,11 +1,11 @@
 //! Verdicts on modules.
 use crate::asserting::same;
-use crate::module_reader::Unread;
 use crate::playing::{function_verdict, verdict};
 use crate::texts::{
     COUNTDOWN, DECIDED, EARLY_OPERAND, ENDLESS, ENTRY_LOOP, FACTORIAL, FAR_OPERAND, FOREIGN_BLOCK,
     NESTED, NO_BLOCK, UNKNOWN_BLOCK,
 };
+use kit_module_reader::Unread;
 use std::test::Fail;
 
 /// A module, and the verdict on it in words.

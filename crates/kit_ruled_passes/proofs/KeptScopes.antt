@@ -13,12 +13,12 @@ use Rattle.ir_trees.specs.Renames.{rename_root}
 use Rattle.ir_trees.specs.Searched.{Lists}
 use Rattle.ir_trees.specs.Stands.{by_handle, StandsFor}
 use Rattle.ir_trees.proofs.OneTree.{one_tree}
-use Rattle.ir_opts.specs.decisions.Phase.{DecidesBranches}
-use Rattle.ir_opts.proofs.DecisionsLemmas.SaidAround.{HasValues as Said, around_root, says_known}
+use Rattle.opt_decide.specs.Phase.{DecidesBranches}
+use Rattle.opt_decide.proofs.SaidAround.{HasValues as Said, around_root, says_known}
 use Rattle.opt_inside.specs.Around.{CanTellTaken, IsTakenOutside}
 use Rattle.opt_inside.specs.declared.reach.starts.Start.TheVariants as start
-use Rattle.ir_opts.specs.unreached.Phases.{RemovesBlocks}
-use Rattle.ir_opts.specs.unreached.Refusals.{LosesUses}
+use Rattle.opt_simplify.specs.Phases.{RemovesBlocks}
+use Rattle.opt_simplify.specs.Refusals.{LosesUses}
 use Rattle.opt_trees.specs.Dce.{TreeSurroundings}
 use Rattle.opt_trees.specs.Occurrences.{Has, at_root, defined_in}
 use Rattle.opt_trees.specs.Simplify.{StartingRegions, OfOperations, IsCut, LosesUse, entry, all_of, decided, decide}

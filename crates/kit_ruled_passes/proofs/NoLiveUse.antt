@@ -18,7 +18,7 @@ use Rattle.ir_trees.specs.Renames.{rename_root}
 use Rattle.ir_trees.specs.Searched.{Lists}
 use Rattle.ir_trees.specs.Stands.{by_handle, StandsFor, head_of}
 use Rattle.ir_trees.specs.Trees.{Regions}
-use Rattle.ir_opts.specs.decisions.Phase.{DecidesBranches}
+use Rattle.opt_decide.specs.Phase.{DecidesBranches}
 use Rattle.opt_dialect.specs.declared.status.OptError.TheVariants.{LiveUse}
 use Rattle.opt_inside.specs.Around.{IsTakenOutside, SaysAround, folded_alone}
 use Rattle.opt_inside.specs.Numbered.{values_in}
@@ -26,8 +26,8 @@ use Rattle.opt_inside.proofs.Added.{HasValues}
 use Rattle.opt_inside.proofs.Around.{HasLists}
 use Rattle.ir_opts.specs.joining.Answers.{HasCircle}
 use Rattle.opt_inside.specs.declared.reach.starts.Start.TheVariants as start
-use Rattle.ir_opts.specs.unreached.Phases.{RemovesBlocks}
-use Rattle.ir_opts.specs.unreached.Refusals.{LosesUses}
+use Rattle.opt_simplify.specs.Phases.{RemovesBlocks}
+use Rattle.opt_simplify.specs.Refusals.{LosesUses}
 use Rattle.opt_trees.specs.Dce.{TreeSurroundings}
 use Rattle.opt_trees.specs.Simplify.{OfOperations, all_of, decided, decide}
 use Rattle.ir_opts.specs.Simplified.{StopsAt, while_deciding, while_removing, loses_uses, while_joining, comes_back}

@@ -14,7 +14,7 @@ use Rattle.ir_trees.proofs.Members.{has_made}
 use Rattle.opt_inside.specs.Occurring.{IsBelowRoot, IsBlockBelow, IsDefinedBelow}
 use Rattle.opt_inside.proofs.Values.{defined}
 use Rattle.opt_inside.proofs.Walked.{sound, blocks_sound}
-use Rattle.ir_opts.specs.propagation.Sccp.{Propagates}
+use Rattle.opt_sccp.specs.Sccp.{Propagates}
 use Rattle.opt_dialect.specs.declared.status.IRStatus.{IRStatus}
 use Rattle.opt_trees.specs.Occurrences.{Has}
 use Rattle.opt_trees.specs.Sccp.{Old, New, Gets, IsResult, IsArgument, put, put_root, used_as}

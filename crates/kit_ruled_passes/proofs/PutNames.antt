@@ -13,8 +13,8 @@ use Rattle.ir_trees.specs.Stands.{by_handle, in_program, ProgramHead, StandsFor}
 use Rattle.ir_trees.specs.Trees.{Defined, Head, Sort, Operations, Regions, Tree, end, operation, block, region}
 use Rattle.opt_trees.specs.Occurrences.{Has}
 use Rattle.opt_trees.specs.Sccp.{Name, Old, New, fresh, used_as, constant_before, put_one, put_results, put_arguments, old_head, put, put_root}
-use Rattle.ir_opts.specs.propagation.Puts.{PutsConstants}
-use Rattle.ir_opts.specs.propagation.Sccp.{Propagates}
+use Rattle.opt_sccp.specs.Puts.{PutsConstants}
+use Rattle.opt_sccp.specs.Sccp.{Propagates}
 use Rattle.opt_dialect.specs.declared.status.IRStatus.{IRStatus}
 use Rattle.kit.specs.Meaning.{KitOperation, KitBlock, kit}
 use Rattle.kit_ops.specs.declared.attributes.IntegerAttr.{IntegerAttr}

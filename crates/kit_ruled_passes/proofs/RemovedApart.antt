@@ -7,7 +7,7 @@ use Rattle.ir_program.specs.declared.handles.IRNode.TheVariants.{Operation as Op
 use Rattle.ir_program.specs.declared.handles.Operation.{Operation}
 use Rattle.ir_program.specs.declared.handles.Ptr.{Ptr}
 use Rattle.ir_trees.specs.Stands.{StandsFor}
-use Rattle.ir_opts.specs.elimination.Thins.{MakesDce}
+use Rattle.opt_dce.specs.Thins.{MakesDce}
 use Rattle.opt_inside.specs.Occurring.{IsBelowRoot, IsBlockBelow}
 use Rattle.opt_trees.specs.Dce.{thin}
 use Rattle.opt_trees.specs.Occurrences.{Has}

@@ -10,7 +10,7 @@ use Rattle.ir_program.specs.declared.handles.Value.{Value}
 use Rattle.ir_trees.specs.Renames.{names_of, rename_root}
 use Rattle.ir_trees.specs.Stands.{by_handle, StandsFor}
 use Rattle.ir_trees.proofs.Members.{has_made}
-use Rattle.ir_opts.specs.decisions.Phase.{maps_of}
+use Rattle.opt_decide.specs.Phase.{maps_of}
 use Rattle.opt_inside.specs.Occurring.{IsBelowRoot, IsBlockBelow, IsDefinedBelow}
 use Rattle.opt_inside.proofs.Values.{defined}
 use Rattle.opt_trees.specs.Occurrences.{Has, at_root, defined_in}

@@ -7,7 +7,7 @@ use Rattle.opt_trees.specs.Dce.{TreeSurroundings}
 use Rattle.opt_trees.specs.Occurrences.{Has, defined_in}
 use Rattle.opt_dialect.specs.declared.status.IRStatus.{IRStatus}
 use Rattle.opt_inside.specs.Around.{IsTakenOutside, SaysAround}
-use Rattle.ir_opts.specs.elimination.Thins.{IsOutcome}
+use Rattle.opt_dce.specs.Thins.{IsOutcome}
 use Rattle.ir_opts.specs.SimplifiedTree.{SimplifiesTree}
 use Rattle.kit.specs.Meaning.{kit}
 use Rattle.kit_ops.specs.declared.attributes.IntegerAttr.{IntegerAttr}

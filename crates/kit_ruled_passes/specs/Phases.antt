@@ -2,8 +2,8 @@
 use Rattle.ir_program.specs.declared.handles.Operation.{Operation}
 use Rattle.ir_program.specs.declared.handles.Ptr.{Ptr}
 use Rattle.ir_trees.specs.Stands.{StandsFor}
-use Rattle.ir_opts.specs.decisions.Phase.{DecidesBranches}
-use Rattle.ir_opts.specs.unreached.Phases.{RemovesBlocks}
+use Rattle.opt_decide.specs.Phase.{DecidesBranches}
+use Rattle.opt_simplify.specs.Phases.{RemovesBlocks}
 use Rattle.opt_trees.specs.Simplify.{all_of}
 use Rattle.kit.specs.Meaning.{kit}
 use Rattle.kit_ruled_views.specs.Ruled.{KitTree}

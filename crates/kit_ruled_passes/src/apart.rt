@@ -5,10 +5,10 @@ ghost use Rattle.ir_program.specs.Program.{operation_at};
 ghost use Rattle.kit.specs.Meaning.{kit};
 ghost use Rattle.kit_ruled_passes.specs.Entering.{IsEnteredNowhere};
 ghost use Rattle.kit_ruled_views.specs.Functions.{IsSelfContained, KitContext};
-ghost use Rattle.ir_opts.specs.elimination.Thins.{IsOutcome};
+ghost use Rattle.opt_dce.specs.Thins.{IsOutcome};
 ghost use Rattle.opt_dialect.specs.declared.status.IRStatus.{IRStatus};
 ghost use Rattle.opt_inside.specs.Occurring.{OfItsTree};
-ghost use Rattle.ir_opts.specs.propagation.Sccp.{IsPropagated};
+ghost use Rattle.opt_sccp.specs.Sccp.{IsPropagated};
 
 use ir_context::Context;
 use ir_program::{Operation, Ptr};

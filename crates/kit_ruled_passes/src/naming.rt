@@ -2,7 +2,7 @@
 ghost use Rattle.std.specs.Prelude.{IsSome};
 ghost use Rattle.ir_program.specs.Program.{operation_at};
 ghost use Rattle.opt_dialect.specs.declared.status.IRStatus.{IRStatus};
-ghost use Rattle.ir_opts.specs.propagation.Sccp.{IsPropagated};
+ghost use Rattle.opt_sccp.specs.Sccp.{IsPropagated};
 ghost use Rattle.kit.specs.Meaning.{kit};
 ghost use Rattle.kit_ruled_views.specs.TreePasses.{IsSccpNamed};
 ghost use Rattle.kit_ruled_passes.specs.Scopes.{KitProgram};

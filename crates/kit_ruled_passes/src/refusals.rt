@@ -7,7 +7,7 @@ ghost use Rattle.kit_ruled_passes.specs.Scopes.{IsInScope, IsUntaken, KitProgram
 ghost use Rattle.kit_ruled_views.specs.Functions.{IsSelfContained, KeepsRules};
 ghost use Rattle.ir_opts.specs.joining.Answers.{HasCircle};
 ghost use Rattle.opt_inside.specs.declared.reach.starts.Start.TheVariants as start;
-ghost use Rattle.ir_opts.specs.unreached.Refusals.{LosesUses};
+ghost use Rattle.opt_simplify.specs.Refusals.{LosesUses};
 
 use ir_context::Context;
 use ir_program::{Operation, Ptr};

@@ -15,9 +15,9 @@ use Rattle.ir_forest.specs.Building.{first_refusal}
 use Rattle.ir_forest.specs.Language.{Language}
 use Rattle.ir_rereading.specs.Texts.{IsReading}
 use Rattle.ir_rereading.proofs.verdicts.TextReadings.{read_in_order, values_named}
-use Rattle.text_reading.specs.declared.frames.assembly.Assembly.{Assembly}
-use Rattle.text_reading.specs.declared.frames.opened.AssemblyFault.{AssemblyFault}
-use Rattle.text_reading.specs.declared.frames.opened.AssemblyFault.TheVariants.{Text}
+use Rattle.text_frames.specs.declared.assembly.Assembly.{Assembly}
+use Rattle.text_frames.specs.declared.opened.AssemblyFault.{AssemblyFault}
+use Rattle.text_frames.specs.declared.opened.AssemblyFault.TheVariants.{Text}
 use Rattle.text_reading.specs.Judged.{IsJudged}
 
 -- a reading, with what the values and the names of the text were found to be

@@ -7,9 +7,9 @@ use Rattle.ir_program.specs.declared.handles.Operation.{Operation}
 use Rattle.text_dialect.specs.Seen.{Seen}
 use Rattle.text_dialect.specs.Standing.{HasOwnLabel}
 use Rattle.ir_print.specs.Shown.{Saying}
-use Rattle.text_reading.specs.declared.frames.assembly.Assembly.{Assembly}
-use Rattle.text_reading.specs.frames.Linking.{CanLink, Links}
-use Rattle.text_reading.specs.frames.Raised.{HoldsAllNew, IsAssembled}
+use Rattle.text_frames.specs.declared.assembly.Assembly.{Assembly}
+use Rattle.text_frames.specs.Linking.{CanLink, Links}
+use Rattle.text_frames.specs.Raised.{HoldsAllNew, IsAssembled}
 use Rattle.ir_grammar.specs.declared.grammar.Event.{Event}
 use Rattle.ir_grammar.specs.declared.grammar.Stop.{Stop}
 use Rattle.ir_scopes.specs.declared.scopes.Resolution.{Resolution}
@@ -34,7 +34,7 @@ use Rattle.ir_rereading.proofs.trees.DefinedTokens.{defined_tokens, many_defined
 use Rattle.ir_rereading.proofs.trees.TreeRenamed.{definitions_renamed}
 use Rattle.ir_rereading.proofs.trees.TreeScopes.{definition_tokens}
 use Rattle.ir_rereading.proofs.verdicts.TokensTaken.{reading_taken}
-use Rattle.text_reading.proofs.FramesLemmas.Reached.{assembled_values, assembled_distinct, assembled_defined, can_link, root_tree}
+use Rattle.text_frames.proofs.Reached.{assembled_values, assembled_distinct, assembled_defined, can_link, root_tree}
 use Rattle.text_rereading.specs.Rereading.{Named}
 use Rattle.text_reading.proofs.Renamed.{renamed_tree}
 

@@ -12,9 +12,9 @@ use Rattle.ir_formats.specs.Words.{token_text}
 use Rattle.ir_forest.specs.Language.{Language}
 use Rattle.ir_forest.specs.ValueFaults.{HasNumberFault, HasNamesFault}
 use Rattle.ir_rereading.specs.Texts.{IsReading}
-use Rattle.text_reading.specs.declared.frames.assembly.Assembly.{Assembly}
-use Rattle.text_reading.specs.declared.frames.opened.AssemblyFault.{AssemblyFault}
-use Rattle.text_reading.specs.declared.frames.opened.AssemblyFault.TheVariants.{Text}
+use Rattle.text_frames.specs.declared.assembly.Assembly.{Assembly}
+use Rattle.text_frames.specs.declared.opened.AssemblyFault.{AssemblyFault}
+use Rattle.text_frames.specs.declared.opened.AssemblyFault.TheVariants.{Text}
 
 -- Reading a text did this, and it is known where the first part begins that is too deep; its values are made, or the first of
 -- their faults is known, memory and numbers aside; its names are looked up, or the first of their faults is known.

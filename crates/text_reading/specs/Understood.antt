@@ -11,7 +11,7 @@ use Rattle.ir_forest.specs.Language.{Language}
 use Rattle.ir_rereading.specs.Texts.{Says}
 use Rattle.text_dialect.specs.Seen.{Seen}
 use Rattle.text_dialect.specs.Standing.{StandsForTexts}
-use Rattle.text_reading.specs.frames.Raised.{HoldsAllNew}
+use Rattle.text_frames.specs.Raised.{HoldsAllNew}
 use Rattle.text_rereading.specs.Rereading.{Named}
 
 -- The operation has a tree that the text says, and its blocks have the labels of the tree and no attributes. Its definitions

@@ -4,7 +4,7 @@ ghost use Rattle.ir_characters.specs.Texts.{codes_of};
 ghost use Rattle.ir_tokens.specs.declared.faults.Fault.{Fault};
 ghost use Rattle.ir_tokens.specs.declared.faults.TextFault.TheVariants.{Memory, CounterFull};
 ghost use Rattle.ir_grammar.specs.declared.grammar.Event.{Event};
-ghost use Rattle.text_reading.specs.declared.frames.opened.AssemblyFault.TheVariants as assembly;
+ghost use Rattle.text_frames.specs.declared.opened.AssemblyFault.TheVariants as assembly;
 ghost use Rattle.ir_tokens.specs.declared.tokens.Token.{Token};
 ghost use Rattle.ir_tokens.specs.Faults.{IsNamed};
 ghost use Rattle.ir_tokens.specs.Tokens.{starts_of, ReadsAs};
@@ -16,13 +16,13 @@ ghost use Rattle.ir_formats.specs.Words.{token_text};
 ghost use Rattle.ir_forest.specs.Language.{Language};
 ghost use Rattle.ir_forest.specs.ValueFaults.{HasNumberFault, HasNamesFault};
 
-use crate::frames::assembly::Assembly;
-use crate::frames::opened::AssemblyFault;
-use crate::frames::source::Source;
 use ir_grammar::grammar::{Reading, Stop};
 use ir_scopes::scopes::{Resolution, ScopeFault};
 use ir_tokens::faults::{Fault, FaultKind, ScopeCause, TextFault, first_of};
 use ir_tokens::tokens::place_after;
+use text_frames::assembly::Assembly;
+use text_frames::opened::AssemblyFault;
+use text_frames::source::Source;
 
 /// The fault that no text of the grammar goes on with the next token, of so many.
 fn syntax_fault(reading: &Reading, tokens: usize) -> Option<Fault>

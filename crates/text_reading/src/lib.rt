@@ -4,11 +4,8 @@
 //! it says into a context, or names the fault that is met first.
 #![tactic(auto)]
 
-mod assembling;
-mod building;
 mod finding;
-mod frames;
 mod reading;
 
-pub use building::discard;
 pub use reading::top_level_parse;
+pub use text_frames::building::discard;

@@ -7,20 +7,14 @@ ghost use Rattle.ir_tokens.specs.declared.tokens.Token.{Token};
 ghost use Rattle.ir_tokens.specs.declared.faults.TextFault.TheVariants.{Memory, CounterFull};
 ghost use Rattle.ir_scopes.specs.Depth.{IsFirstTooDeep};
 ghost use Rattle.ir_rereading.specs.Texts.{language_of, HasDefinitions, IsReading, IsRefusal};
-ghost use Rattle.text_reading.specs.building.Kept.{KeepsPayloads, KeepsPayloadsOf, SameSeen};
+ghost use Rattle.text_frames.specs.building.Kept.{KeepsPayloads, KeepsPayloadsOf, SameSeen};
 ghost use Rattle.text_dialect.specs.Seen.{Seen, seen};
-ghost use Rattle.text_reading.specs.frames.Linking.{CanLink, Links};
-ghost use Rattle.text_reading.specs.frames.Raised.{AreWaiting, HoldsAllNew};
+ghost use Rattle.text_frames.specs.Linking.{CanLink, Links};
+ghost use Rattle.text_frames.specs.Raised.{AreWaiting, HoldsAllNew};
 ghost use Rattle.text_dialect.specs.formats.Isolated.{is_isolated};
 ghost use Rattle.text_reading.specs.Understood.{IsRead};
 
-use crate::assembling::assembling::assemble;
-use crate::building::discard;
 use crate::finding::verdict;
-use crate::frames::assembly::Assembly;
-use crate::frames::linking::link;
-use crate::frames::opened::AssemblyFault;
-use crate::frames::source::Source;
 use ir_characters::Text;
 use ir_context::Context;
 use ir_formats::rules::DialectGrammar;
@@ -31,7 +25,13 @@ use ir_scopes::depth::DEEPEST;
 use ir_scopes::scopes::{Resolution, ScopeFault};
 use ir_tokens::faults::TextFault;
 use std::alloc::{AllocError, Global};
+use text_assembling::assembling::assemble;
 use text_dialect::{ReadDialect, TextDialect, grammar_of, resolve};
+use text_frames::assembly::Assembly;
+use text_frames::building::discard;
+use text_frames::linking::link;
+use text_frames::opened::AssemblyFault;
+use text_frames::source::Source;
 
 /// Reads one operation with all that stands in it, into a context.
 ///

@@ -12,7 +12,7 @@ use Rattle.ir_trees.specs.Trees.{Head, Sort, Operations, Blocks, Regions, Tree, 
 use Rattle.opt_trees.specs.Dialect.{Dialect}
 use Rattle.opt_trees.specs.Simplify.{StartingRegions, Joinable, IsGiven, stops, use_head, use_instead, Joins, ends, operations, regions, first, chain_ends, Chases, goes, goes_by, ComesBack}
 use Rattle.opt_inside.specs.Outside.{ChangesOperandsOutside}
-use Rattle.ir_opts.specs.chains.Phases.{MergesBlocks}
+use Rattle.opt_chains.specs.Phases.{MergesBlocks}
 use Rattle.opt_inside.specs.reach.Starts.{IsStartIn}
 use Rattle.opt_inside.specs.declared.reach.starts.Start.{Start}
 use Rattle.ir_opts.specs.joining.Answers.{HasNoCircle, HasNoneJoinable}

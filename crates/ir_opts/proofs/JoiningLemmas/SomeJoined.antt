@@ -8,9 +8,9 @@ use Rattle.ir_program.specs.declared.handles.BasicBlock.{BasicBlock}
 use Rattle.ir_trees.specs.Stands.{by_handle, in_program, ProgramTree, StandsFor}
 use Rattle.opt_trees.specs.Dialect.{Dialect}
 use Rattle.opt_trees.specs.Simplify.{StartingRegions, Joinable}
-use Rattle.ir_opts.specs.chains.Chained.{AreChains, StartsSomewhere}
-use Rattle.ir_opts.specs.chains.Merging.{is_taken}
-use Rattle.ir_opts.specs.declared.chains.merging.Join.{Join}
+use Rattle.opt_chains.specs.Chained.{AreChains, StartsSomewhere}
+use Rattle.opt_chains.specs.Merging.{is_taken}
+use Rattle.opt_chains.specs.declared.merging.Join.{Join}
 use Rattle.opt_inside.specs.declared.reach.starts.Start.{Start}
 use Rattle.ir_opts.specs.joining.Answers.{HasNoneJoinable}
 use Rattle.ir_opts.specs.joining.Plans.{JoinAll}

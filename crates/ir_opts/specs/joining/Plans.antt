@@ -6,9 +6,9 @@ use Rattle.ir_program.specs.declared.handles.Operation.{Operation}
 use Rattle.ir_trees.specs.Stands.{by_handle, in_program, ProgramTree, StandsFor}
 use Rattle.opt_trees.specs.Dialect.{Dialect}
 use Rattle.opt_trees.specs.Simplify.{StartingRegions}
-use Rattle.ir_opts.specs.chains.Chained.{AreChains, StartsSomewhere, IsJoiningPlan}
-use Rattle.ir_opts.specs.declared.chains.merge_values.StandIn.{StandIn}
-use Rattle.ir_opts.specs.declared.chains.merging.Join.{Join}
+use Rattle.opt_chains.specs.Chained.{AreChains, StartsSomewhere, IsJoiningPlan}
+use Rattle.opt_chains.specs.declared.merge_values.StandIn.{StandIn}
+use Rattle.opt_chains.specs.declared.merging.Join.{Join}
 use Rattle.opt_inside.specs.reach.Starts.{IsStartIn}
 use Rattle.opt_inside.specs.declared.reach.starts.Start.{Start}
 use Rattle.ir_opts.specs.joining.Answers.{HasNoneJoinable}

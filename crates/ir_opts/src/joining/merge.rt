@@ -2,7 +2,7 @@
 ghost use Rattle.std.specs.Prelude.{◌≡◌, ◌⊎◌, ◌↔◌, Ok, IfErr, IfOk, IsSome, OnErr, OnOk};
 ghost use Rattle.ir_program.specs.Program.{operation_at};
 ghost use Rattle.ir_trees.specs.Stands.{ProgramTree, StandsFor, by_handle};
-ghost use Rattle.ir_opts.specs.chains.Phases.{MergesBlocks};
+ghost use Rattle.opt_chains.specs.Phases.{MergesBlocks};
 ghost use Rattle.opt_dialect.specs.declared.status.IRStatus.TheVariants.{Unchanged};
 ghost use Rattle.opt_dialect.specs.declared.status.OptError.TheVariants.{LiveUse, Memory};
 ghost use Rattle.ir_opts.specs.joining.Answers.{HasCircle, HasNoCircle, HasNoneJoinable};
@@ -10,10 +10,10 @@ ghost use Rattle.opt_inside.specs.reach.Edges.{FitsEdgesFrom, HasLocalEdgesFrom}
 ghost use Rattle.opt_inside.specs.reach.Starts.{IsStartIn};
 ghost use Rattle.opt_trees.specs.Simplify.{StartingRegions};
 
-use crate::chains::apply_plan;
 use crate::joining::plan::find_plan;
 use ir_context::{TypeTable, TypedProgram};
 use ir_program::{Operation, Ptr};
+use opt_chains::apply_plan;
 use opt_dialect::{IRStatus, OptDialect, OptError};
 use opt_inside::reach::Start;
 use std::alloc::Global;

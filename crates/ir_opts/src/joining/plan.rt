@@ -7,10 +7,10 @@ ghost use Rattle.ir_opts.specs.joining.Answers.{HasCircle};
 ghost use Rattle.ir_opts.specs.joining.Plans.{FindsPlan};
 ghost use Rattle.opt_inside.specs.reach.Edges.{FitsEdgesFrom, HasLocalEdgesFrom};
 
-use crate::chains::{Join, StandIn, find_joins};
-use crate::stand_ins::find_stand_ins;
 use ir_program::{Operation, Program, Ptr};
 use ir_trees::know_tree;
+use opt_chains::stand_ins::find_stand_ins;
+use opt_chains::{Join, StandIn, find_joins};
 use opt_dialect::{OptDialect, OptError};
 use opt_inside::reach::Start;
 use opt_inside::{Inside, number_inside};

@@ -1,6 +1,6 @@
 use Rattle.std.proofs.Common.{subst}
 use Rattle.opt_inside.proofs.Added.{HasValues}
-use Rattle.text_reading.proofs.BuildingLemmas.Stood.{HasLists}
+use Rattle.text_frames.proofs.BuildingLemmas.Stood.{HasLists}
 use Rattle.irkit_running.proofs.ReadModules.{entered_nowhere, self_contained}
 use Rattle.irkit_running.proofs.apart.know_read_module.Goals as goal
 

@@ -4,9 +4,9 @@ use Rattle.ir_program.specs.declared.handles.IRNode.TheVariants.{Operation as Op
 use Rattle.kit_checks.specs.Faults.{IsVerdict}
 use Rattle.kit_checks.specs.World.{world_of}
 use Rattle.kit_language.specs.Language.{kit_language}
-use Rattle.text_reading.proofs.BuildingLemmas.Discarded.{used_since}
-use Rattle.text_reading.proofs.BuildingLemmas.Numbers.{erased_both}
-use Rattle.text_reading.proofs.BuildingLemmas.Shown.{payloads_since}
+use Rattle.text_frames.proofs.BuildingLemmas.Discarded.{used_since}
+use Rattle.text_frames.proofs.BuildingLemmas.Numbers.{erased_both}
+use Rattle.text_frames.proofs.BuildingLemmas.Shown.{payloads_since}
 use Rattle.text_dialect.specs.Seen.{seen}
 use Rattle.irkit_running.proofs.ReadLemmas.{undecoded, misread, misruled, accepted, said, root_there, seen_there}
 use Rattle.irkit_running.proofs.loading.understand.Goals as goal

@@ -1,7 +1,7 @@
 use Rattle.std.proofs.Common.{[], ◌∷◌, refl, subst}
 use Rattle.ir_program.specs.Program.{Program}
 use Rattle.ir_trees.specs.Stands.{StandsFor}
-use Rattle.ir_opts.proofs.DecisionsLemmas.SaidAround.{HasValues as Said}
+use Rattle.opt_decide.proofs.SaidAround.{HasValues as Said}
 use Rattle.opt_inside.proofs.Around.{HasLists}
 use Rattle.opt_inside.proofs.Added.{HasValues}
 use Rattle.opt_inside.specs.Around.{CanTellTaken}

@@ -1,9 +1,9 @@
 use Rattle.std.proofs.Common.{sym, subst}
 use Rattle.text_dialect.specs.Seen.{seen}
-use Rattle.text_reading.specs.building.Inside.{AreLoose, AreUsedInside, CameSince, StartIsOutside}
-use Rattle.text_reading.proofs.BuildingLemmas.Discarded.{used_since}
-use Rattle.text_reading.proofs.BuildingLemmas.Numbers.{erased_both}
-use Rattle.text_reading.proofs.BuildingLemmas.Shown.{payloads_of_both, payloads_shown}
+use Rattle.text_frames.specs.building.Inside.{AreLoose, AreUsedInside, CameSince, StartIsOutside}
+use Rattle.text_frames.proofs.BuildingLemmas.Discarded.{used_since}
+use Rattle.text_frames.proofs.BuildingLemmas.Numbers.{erased_both}
+use Rattle.text_frames.proofs.BuildingLemmas.Shown.{payloads_of_both, payloads_shown}
 use Rattle.text_reading.proofs.reading.connect.Goals as goal
 
 pub discard-requires-clause-loose : goal.discard-requires-clause-loose

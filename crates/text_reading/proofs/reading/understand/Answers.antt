@@ -3,8 +3,8 @@ use Rattle.ir_characters.specs.Texts.{codes_of}
 use Rattle.ir_tokens.specs.declared.faults.TextFault.TheVariants.{CounterFull}
 use Rattle.std.proofs.lemmas.Result.{IfOk-at_ok, MatchResult-at_ok}
 use Rattle.text_dialect.specs.Seen.{seen}
-use Rattle.text_reading.proofs.BuildingLemmas.Numbers.{erased_both}
-use Rattle.text_reading.proofs.BuildingLemmas.Shown.{payloads_since}
+use Rattle.text_frames.proofs.BuildingLemmas.Numbers.{erased_both}
+use Rattle.text_frames.proofs.BuildingLemmas.Shown.{payloads_since}
 use Rattle.ir_grammar.specs.Nesting.{at_root, at_end, Nests, OwnTokens}
 use Rattle.ir_forest.specs.Progress.{Leads}
 use Rattle.ir_forest.specs.Identifiers.{AreSpelt}
@@ -19,7 +19,7 @@ use Rattle.ir_rereading.proofs.trees.DefinedTokens.{many_defined}
 use Rattle.ir_rereading.proofs.verdicts.Identifiers.{reading_spelt}
 use Rattle.ir_rereading.proofs.verdicts.TextReadings.{read_in_order, read_whole}
 use Rattle.text_dialect.specs.formats.Isolated.{is_isolated}
-use Rattle.text_reading.specs.frames.Raised.{HoldsAllNew, IsAssembled}
+use Rattle.text_frames.specs.Raised.{HoldsAllNew, IsAssembled}
 use Rattle.text_reading.proofs.Judged.{judged_so}
 use Rattle.text_reading.proofs.Understood.{can_link_all, answers_read}
 use Rattle.text_reading.proofs.reading.understand.Goals as goal

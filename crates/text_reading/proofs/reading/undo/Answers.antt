@@ -1,9 +1,9 @@
 use Rattle.std.proofs.lemmas.Result.{IfOk-at_ok}
 use Rattle.std.proofs.Common.{sym, subst}
 use Rattle.text_dialect.specs.Seen.{seen}
-use Rattle.text_reading.specs.building.Inside.{AreUsedInside, StartIsOutside}
-use Rattle.text_reading.proofs.BuildingLemmas.Discarded.{used_since}
-use Rattle.text_reading.specs.frames.Raised.{HoldsAllNew}
+use Rattle.text_frames.specs.building.Inside.{AreUsedInside, StartIsOutside}
+use Rattle.text_frames.proofs.BuildingLemmas.Discarded.{used_since}
+use Rattle.text_frames.specs.Raised.{HoldsAllNew}
 use Rattle.text_reading.proofs.reading.undo.Goals as goal
 
 pub discard-requires-clause-used : goal.discard-requires-clause-used

@@ -1,7 +1,7 @@
 use Rattle.std.proofs.Common.{List, refl, sym, subst}
-use Rattle.ir_opts.specs.chains.Chained.{IsJoiningPlan}
-use Rattle.ir_opts.specs.declared.chains.merge_values.StandIn.{StandIn}
-use Rattle.ir_opts.specs.declared.chains.merging.Join.{Join}
+use Rattle.opt_chains.specs.Chained.{IsJoiningPlan}
+use Rattle.opt_chains.specs.declared.merge_values.StandIn.{StandIn}
+use Rattle.opt_chains.specs.declared.merging.Join.{Join}
 use Rattle.opt_inside.specs.reach.Edges.{FitsEdgesFrom}
 use Rattle.ir_opts.proofs.JoiningLemmas.NoneJoined.{none_merged, none_circles}
 use Rattle.ir_opts.proofs.JoiningLemmas.PlanFound.{none_found, plan_found}

@@ -1,6 +1,6 @@
 use Rattle.std.proofs.Common.{◌≡◌, List, [], Ok, sym, ap, ◌∙◌, subst}
-use Rattle.ir_opts.specs.chains.Chained.{AreChains, StartsSomewhere, IsJoiningPlan}
-use Rattle.ir_opts.specs.declared.chains.merging.Join.{Join}
+use Rattle.opt_chains.specs.Chained.{AreChains, StartsSomewhere, IsJoiningPlan}
+use Rattle.opt_chains.specs.declared.merging.Join.{Join}
 use Rattle.ir_opts.proofs.JoiningLemmas.SomeJoined.{empty_list, no_empty, none_joinable, some_joinable, begins_somewhere}
 use Rattle.ir_opts.proofs.joining.plan.plan_inside.Goals as goal
 

@@ -1,6 +1,0 @@
-use Rattle.ir_opts.proofs.ChainsLemmas.ChainRows.{HasWalked}
-use Rattle.ir_opts.proofs.chains.chain_steps.chain_steps.Given as goal
-
--- the chains of the firsts up to here are walked
-abbrev pub invariant-loop-first : goal.invariant-loop-first
-invariant-loop-first l = HasWalked l.next l.first l.steps.items

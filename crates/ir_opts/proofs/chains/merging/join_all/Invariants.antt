@@ -1,7 +1,0 @@
-use Rattle.std.proofs.Common.{◌≡◌, take}
-use Rattle.ir_opts.specs.chains.Merging.{HasJoined}
-use Rattle.ir_opts.proofs.chains.merging.join_all.Given as goal
-
--- the steps up to here are taken
-abbrev pub invariant-loop-join : goal.invariant-loop-join
-invariant-loop-join g l = record { joined : HasJoined l.fn.ctx.program l.ctx.program (take l.join-index l.joins); types : l.ctx.types ≡ l.fn.ctx.types; numbers : l.ctx.program.counter ≡ l.fn.ctx.program.counter }

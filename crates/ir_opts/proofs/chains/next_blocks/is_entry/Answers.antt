@@ -1,5 +1,0 @@
-use Rattle.ir_opts.proofs.ChainsLemmas.NextBlock.{entry_is}
-use Rattle.ir_opts.proofs.chains.next_blocks.is_entry.Goals as goal
-
-pub returns : goal.returns
-returns g c = entry_is c.args.program.now c.args.block c.previous_block.result c.is_none.result c.is_none.ensures c.previous_block.ensures.previous c.previous_block.ensures.first

@@ -1,6 +1,0 @@
-use Rattle.std.proofs.Common.{rules}
-use Rattle.ir_opts.proofs.ChainsLemmas.NextBlock.{number_is}
-use Rattle.ir_opts.proofs.chains.next_blocks.number_of.Goals as goal
-
-pub returns : goal.returns
-returns c = number_is _ c.args.blocks.now.keys c.args.block c.get_index_of.result c.requires (λ a h. search rules) (search rules) c.get_index_of.ensures.index c.get_index_of.ensures.found

@@ -1,8 +1,0 @@
-use Rattle.std.proofs.Common.{◌≡◌}
-use Rattle.ir_program.specs.Edits.{EditsOperation}
-use Rattle.ir_opts.proofs.EliminationLemmas.Lost.{loses_from}
-use Rattle.ir_opts.proofs.elimination.operands.remove_operands.Given as goal
-
--- the marked operands from here on are out
-abbrev pub invariant-loop-i : goal.invariant-loop-i
-invariant-loop-i g l = record { removed : EditsOperation l.fn.ctx.program l.ctx.program l.op (loses_from l.i l.marks); types : l.ctx.types ≡ l.fn.ctx.types; numbers : l.ctx.program.counter ≡ l.fn.ctx.program.counter }

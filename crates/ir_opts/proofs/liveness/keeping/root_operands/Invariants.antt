@@ -1,8 +1,0 @@
-use Rattle.opt_inside.specs.Numbered.{numbers_of}
-use Rattle.ir_program.specs.Rows.{operands_at}
-use Rattle.ir_opts.specs.liveness.Problems.{ListsDefiners}
-use Rattle.ir_opts.proofs.LivenessLemmas.Kept.{ValuesBelow}
-use Rattle.ir_opts.proofs.liveness.keeping.root_operands.Given as goal
-
-abbrev pub invariant-loop-index : goal.invariant-loop-index
-invariant-loop-index g l = ListsDefiners (numbers_of l.inside) (ValuesBelow (operands_at l.program l.op) (λ v. Unit {0}) l.index) l.kept.items

@@ -1,6 +1,0 @@
-use Rattle.std.proofs.Common.{rules}
-use Rattle.ir_opts.proofs.liveness.numbers.value_number.Goals as goal
-use Rattle.ir_opts.proofs.LivenessLemmas.Keys.{number_is}
-
-pub returns : goal.returns
-returns c = number_is _ c.args.inside.now.values.keys c.args.value c.get_index_of.result (λ a h. search rules) (search rules) c.get_index_of.ensures.index c.get_index_of.ensures.found

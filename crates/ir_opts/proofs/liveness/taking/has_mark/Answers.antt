@@ -1,9 +1,0 @@
-use Rattle.std.proofs.Common.{refl, sym, ◌∙◌}
-use Rattle.ir_opts.proofs.LivenessLemmas.Marking.{any_marked}
-use Rattle.ir_opts.proofs.liveness.taking.has_mark.Goals as goal
-
-pub returns : goal.returns
-returns c = (
-  λ e. (any_marked _ refl refl c.args.marks.now).0 (sym c.contains.ensures.value ∙ e),
-  λ w. c.contains.ensures.value ∙ (any_marked _ refl refl c.args.marks.now).1 w,
-)

@@ -1,7 +1,0 @@
-use Rattle.std.proofs.Common.{take}
-use Rattle.opt_inside.specs.Numbered.{numbers_of}
-use Rattle.ir_opts.specs.liveness.Taken.{Picks, IsLoss, LosesSome, op_of}
-use Rattle.ir_opts.proofs.liveness.taking.lost_operands.Given as goal
-
-abbrev pub invariant-loop-index : goal.invariant-loop-index
-invariant-loop-index l = Picks op_of (IsLoss (numbers_of l.inside) l.rows l.arguments) (LosesSome (numbers_of l.inside) l.rows l.arguments) (take l.index l.inside.operations.keys) l.lost.items

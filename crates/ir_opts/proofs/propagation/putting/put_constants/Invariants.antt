@@ -1,7 +1,0 @@
--- The constants before the index are put in.
-use Rattle.std.proofs.Common.{◌≡◌, ◌+◌}
-use Rattle.ir_opts.proofs.PropagationLemmas.PuttingLoop.{IsPutting}
-use Rattle.ir_opts.proofs.propagation.putting.put_constants.Given as goal
-
-abbrev pub invariant-loop-one : goal.invariant-loop-one
-invariant-loop-one g l = record { putting : IsPutting g.D.Meanings.meaning l.fn.ctx.program l.ctx.program l.made l.one-index; types : l.ctx.types ≡ l.fn.ctx.types; numbers : l.ctx.program.counter ≡ l.fn.ctx.program.counter + l.one-index }

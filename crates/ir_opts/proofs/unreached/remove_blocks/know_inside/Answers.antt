@@ -1,5 +1,0 @@
-use Rattle.ir_opts.proofs.UnreachedLemmas.RemovedErased.{decided_by}
-use Rattle.ir_opts.proofs.unreached.remove_blocks.know_inside.Goals as goal
-
-pub returns : goal.returns
-returns g c = decided_by c.args.program.now c.args.block _ c.nodes_inside-inside.ensures.inside

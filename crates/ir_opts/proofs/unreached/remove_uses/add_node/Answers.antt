@@ -1,7 +1,0 @@
-use Rattle.ir_program.specs.contracts.handles.IRNodePartialEq.TheImpl.{eq-value}
-use Rattle.ir_opts.proofs.UnreachedLemmas.RemovedNodes.{node_same}
-use Rattle.ir_opts.proofs.UnreachedLemmas.RemovedUses.{gained}
-use Rattle.ir_opts.proofs.unreached.remove_uses.add_node.Goals as goal
-
-pub returns : goal.returns
-returns c = gained eq-value.it node_same c.args.nodes.now.keys c.insert.new.self.keys c.args.node c.in_ok-insert.ensures.keys

@@ -1,9 +1,0 @@
-//! Branches that their operands decide.
-
-mod alone;
-mod deciding;
-mod plan;
-mod replacing;
-
-pub use deciding::decide_branches;
-pub use plan::Decision;

@@ -1,8 +1,0 @@
-//! Constant propagation.
-
-mod propagating;
-mod putting;
-mod wanted;
-
-pub use propagating::sccp;
-pub use putting::{Made, put_constants};

@@ -1,0 +1,15 @@
+pub mod Picking
+pub mod Among
+pub mod BlockLists
+pub mod Dropped
+pub mod Turns
+pub mod Lost
+pub mod LostArguments
+pub mod Detached
+pub mod OutsideLeft
+pub mod Trees
+pub mod Thinned
+pub mod Gone
+pub mod Outcomes
+pub mod Erased
+pub mod LivenessLemmas

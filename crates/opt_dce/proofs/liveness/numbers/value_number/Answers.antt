@@ -1,0 +1,6 @@
+use Rattle.std.proofs.Common.{rules}
+use Rattle.opt_dce.proofs.liveness.numbers.value_number.Goals as goal
+use Rattle.opt_dce.proofs.LivenessLemmas.Keys.{number_is}
+
+pub returns : goal.returns
+returns c = number_is _ c.args.inside.now.values.keys c.args.value c.get_index_of.result (λ a h. search rules) (search rules) c.get_index_of.ensures.index c.get_index_of.ensures.found

@@ -1,0 +1,10 @@
+//! Branches that their operands decide.
+#![tactic(auto)]
+
+mod alone;
+mod deciding;
+mod plan;
+mod replacing;
+
+pub use deciding::decide_branches;
+pub use plan::Decision;

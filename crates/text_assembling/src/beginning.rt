@@ -1,0 +1,264 @@
+//! What begins in a text, and what stands alone in it.
+ghost use Rattle.std.specs.Prelude.{◌≡◌, ◌-◌, ◌∷◌, ◌++◌, [], ℕ, List, Bool, None, OnOk, IfErr, true};
+ghost use Rattle.ir_characters.specs.Texts.{codes_of};
+ghost use Rattle.ir_names.specs.declared.kinds.Signedness.{Signedness};
+ghost use Rattle.ir_names.specs.declared.identifier.Identifier.{Identifier};
+ghost use Rattle.ir_names.specs.Identifier.{text_of};
+ghost use Rattle.ir_names.specs.Text.{is_identifier};
+ghost use Rattle.ir_print.specs.Pieces.{number, width};
+ghost use Rattle.ir_print.specs.Shown.{IsNumber, IsWidth};
+ghost use Rattle.ir_program.specs.declared.handles.BasicBlock.{BasicBlock};
+ghost use Rattle.ir_program.specs.declared.handles.Ptr.{Ptr};
+ghost use Rattle.text_frames.specs.declared.opened.AssemblyFault.TheVariants.{Memory};
+ghost use Rattle.text_frames.specs.declared.opened.OpenOperation.{OpenOperation};
+ghost use Rattle.text_assembling.specs.Assembling.{Begun, KeepsAround, NamesOne};
+ghost use Rattle.text_frames.specs.Opened.{HasOneMoreName, HasBody, HasPut};
+ghost use Rattle.ir_forest.specs.Meaning.{number_in, width_in};
+
+use crate::assembling::Assembler;
+use ir_characters::Text;
+use ir_print::Part;
+use text_dialect::TextDialect;
+use text_frames::making::label_of;
+use text_frames::opened::{AssemblyFault, Body, Content, Open, OpenBlock, OpenOperation};
+use text_frames::source::{number_of, width_of};
+
+impl<D: TextDialect> Assembler<D> {
+    ghost use Rattle.ir_print.specs.declared.format.Number.{Number};
+    ghost use Rattle.ir_print.specs.declared.format.Part.{Part};
+    ghost use Rattle.ir_print.specs.declared.format.Part.TheVariants as part;
+    ghost use Rattle.text_frames.specs.declared.opened.Body.TheVariants as body;
+    ghost use Rattle.std.specs.Prelude.{Option, Vec};
+    ghost use Rattle.std.specs.Global.{Global};
+
+    /// Something begins at the last token, in spare memory if there is some.
+    #[inline(always)]
+    pub fn begin(
+        &mut self,
+        spares: &mut Vec<Box<Content<D>>>,
+        body: Body<D>,
+    ) -> Result<(), AssemblyFault>
+        ensures begun { OnOk result (Begun self.old self.new body) }
+        ensures taken { self.new.taken ≡ self.old.taken }
+        ensures made { self.new.made ≡ self.old.made }
+        ensures memory { IfErr result (λ e. e ≡ Memory) }
+    {
+        self.around.reserve(1)?;
+        let content = match spares.pop() {
+            Some(content) => content,
+            None => Box::new(self.alloc, Content::new(self.alloc))?,
+        };
+        let inner = Open::reusing(self.alloc, content, body, self.last());
+        let outer = std::mem::replace(&mut self.here, inner);
+        self.around.push_reserved(outer);
+        Ok(())
+    }
+
+    /// An operation of the kind with this number begins, with no operand and no region yet.
+    pub fn begin_operation(
+        &mut self,
+        spares: &mut Vec<Box<Content<D>>>,
+        kind: u8,
+    ) -> Result<(), AssemblyFault>
+        ensures begun { OnOk result ((o : OpenOperation) × Begun self.old self.new (body.Operation o)
+            × (o.kind ≡ kind) × (o.operands.items ≡ []) × (o.regions.items ≡ [])) }
+        ensures made { self.new.made ≡ self.old.made }
+        ensures taken { self.new.taken ≡ self.old.taken }
+        ensures memory { IfErr result (λ e. e ≡ Memory) }
+    {
+        let mut operands = std::mem::replace(&mut self.spare_operands, Vec::new(self.alloc));
+        operands.clear();
+        let body = Body::Operation(OpenOperation {
+            kind,
+            operands,
+            regions: Vec::new(self.alloc),
+        });
+        self.begin(spares, body)
+    }
+
+    /// A block begins, which is made once its header is read.
+    pub fn begin_block(&mut self, spares: &mut Vec<Box<Content<D>>>) -> Result<(), AssemblyFault>
+        ensures begun { OnOk result (Begun self.old self.new (body.Block (record { block = None }))) }
+        ensures made { self.new.made ≡ self.old.made }
+        ensures taken { self.new.taken ≡ self.old.taken }
+        ensures memory { IfErr result (λ e. e ≡ Memory) }
+    {
+        self.begin(spares, Body::Block(OpenBlock { block: None }))
+    }
+
+    /// An attribute of the kind with this number begins.
+    pub fn begin_attribute(
+        &mut self,
+        spares: &mut Vec<Box<Content<D>>>,
+        kind: u8,
+    ) -> Result<(), AssemblyFault>
+        ensures begun { OnOk result (Begun self.old self.new (body.Attribute kind)) }
+        ensures made { self.new.made ≡ self.old.made }
+        ensures taken { self.new.taken ≡ self.old.taken }
+        ensures memory { IfErr result (λ e. e ≡ Memory) }
+    {
+        self.begin(spares, Body::Attribute(kind))
+    }
+
+    /// A type of the kind with this number begins.
+    pub fn begin_type(
+        &mut self,
+        spares: &mut Vec<Box<Content<D>>>,
+        kind: u8,
+    ) -> Result<(), AssemblyFault>
+        ensures begun { OnOk result (Begun self.old self.new (body.«Type» kind)) }
+        ensures made { self.new.made ≡ self.old.made }
+        ensures taken { self.new.taken ≡ self.old.taken }
+        ensures memory { IfErr result (λ e. e ≡ Memory) }
+    {
+        self.begin(spares, Body::Type(kind))
+    }
+
+    /// A member of a list begins.
+    pub fn begin_item(&mut self, spares: &mut Vec<Box<Content<D>>>) -> Result<(), AssemblyFault>
+        ensures begun { OnOk result (Begun self.old self.new body.Item) }
+        ensures made { self.new.made ≡ self.old.made }
+        ensures taken { self.new.taken ≡ self.old.taken }
+        ensures memory { IfErr result (λ e. e ≡ Memory) }
+    {
+        self.begin(spares, Body::Item)
+    }
+
+    /// A list begins, with no member yet.
+    pub fn begin_list(&mut self, spares: &mut Vec<Box<Content<D>>>) -> Result<(), AssemblyFault>
+        ensures begun { OnOk result ((ms : Vec (Vec (Part D D.OpKind D.Attr D.TypeKey) Global) Global)
+            × Begun self.old self.new (body.List ms) × (ms.items ≡ [])) }
+        ensures made { self.new.made ≡ self.old.made }
+        ensures taken { self.new.taken ≡ self.old.taken }
+        ensures memory { IfErr result (λ e. e ≡ Memory) }
+    {
+        self.begin(spares, Body::List(Vec::new(self.alloc)))
+    }
+
+    /// Operands begin, with none yet.
+    pub fn begin_operands(&mut self, spares: &mut Vec<Box<Content<D>>>) -> Result<(), AssemblyFault>
+        ensures begun { OnOk result ((ks : Vec ℕ Global)
+            × Begun self.old self.new (body.Operands ks) × (ks.items ≡ [])) }
+        ensures made { self.new.made ≡ self.old.made }
+        ensures taken { self.new.taken ≡ self.old.taken }
+        ensures memory { IfErr result (λ e. e ≡ Memory) }
+    {
+        self.begin(spares, Body::Operands(Vec::new(self.alloc)))?;
+        // Operands have no parts, so the memory for the tokens of parts serves for theirs.
+        if let Body::Operands(tokens) = &mut self.here.body {
+            std::mem::swap(tokens, &mut self.here.content.tokens);
+        }
+        Ok(())
+    }
+
+    /// A region begins, with no block yet.
+    pub fn begin_region(&mut self, spares: &mut Vec<Box<Content<D>>>) -> Result<(), AssemblyFault>
+        ensures begun { OnOk result ((bs : Vec (Ptr BasicBlock) Global)
+            × Begun self.old self.new (body.Region bs) × (bs.items ≡ [])) }
+        ensures made { self.new.made ≡ self.old.made }
+        ensures taken { self.new.taken ≡ self.old.taken }
+        ensures memory { IfErr result (λ e. e ≡ Memory) }
+    {
+        self.begin(spares, Body::Region(Vec::new(self.alloc)))
+    }
+
+    /// One more definition is named, which isn't made yet.
+    #[inline]
+    fn name_definition(&mut self) -> Result<(), AssemblyFault>
+        ensures named { OnOk result (NamesOne self.old self.new) }
+        ensures loose { self.new.made.loose ≡ self.old.made.loose }
+        ensures here { (self.new.here ≡ record self.old.here { numbers = self.new.here.numbers }) }
+        ensures around { KeepsAround self.old self.new }
+        ensures memory { IfErr result (λ e. e ≡ Memory) }
+    {
+        let number = self.made.values.len();
+        self.here.numbers.push(number)?;
+        self.made.values.push(None)?;
+        Ok(())
+    }
+
+    /// The last token names a result of the operation that comes.
+    pub fn result(&mut self) -> Result<(), AssemblyFault>
+        ensures name { OnOk result (HasOneMoreName self.old.here self.new.here (self.old.taken - 1)) }
+        ensures named { OnOk result (NamesOne self.old self.new) }
+        ensures loose { self.new.made.loose ≡ self.old.made.loose }
+        ensures around { KeepsAround self.old self.new }
+        ensures memory { IfErr result (λ e. e ≡ Memory) }
+    {
+        let token = self.last();
+        self.here.names.push(token)?;
+        self.name_definition()
+    }
+
+    /// The last token names an argument of the block that is being read.
+    pub fn argument(&mut self) -> Result<(), AssemblyFault>
+        ensures here { HasBody self.old.here self.new.here self.old.here.body }
+        ensures content { self.new.here.content ≡ self.old.here.content }
+        ensures named { OnOk result (NamesOne self.old self.new) }
+        ensures loose { self.new.made.loose ≡ self.old.made.loose }
+        ensures around { KeepsAround self.old self.new }
+        ensures memory { IfErr result (λ e. e ≡ Memory) }
+    {
+        self.here.names.clear();
+        self.name_definition()
+    }
+
+    /// The last token names an operand.
+    pub fn operand(&mut self) -> Result<(), AssemblyFault>
+        ensures here { (ks : Vec ℕ Global) → self.old.here.body ≡ body.Operands ks → OnOk result ((ls : Vec ℕ Global)
+            × (self.new.here ≡ record self.old.here { body = body.Operands ls })
+            × (ls.items ≡ ks.items ++ (self.old.taken - 1) ∷ [])) }
+        ensures made { self.new.made ≡ self.old.made }
+        ensures around { KeepsAround self.old self.new }
+        ensures memory { IfErr result (λ e. e ≡ Memory) }
+    {
+        let token = self.last();
+        if let Body::Operands(tokens) = &mut self.here.body {
+            tokens.push(token)?;
+        }
+        Ok(())
+    }
+
+    /// The last token is a part.
+    pub fn name(&mut self, text: Text) -> Result<(), AssemblyFault>
+        ensures here { is_identifier (codes_of text.entry) ≡ true → OnOk result ((id : Identifier)
+            × (text_of id ≡ codes_of text.entry)
+            × HasPut self.old.here self.new.here self.old.here.body (part.Name id) (self.old.taken - 1)) }
+        ensures made { self.new.made ≡ self.old.made }
+        ensures around { KeepsAround self.old self.new }
+        ensures memory { IfErr result (λ e. e ≡ Memory) }
+    {
+        let token = self.last();
+        let label = label_of(self.alloc, text)?;
+        match label {
+            Some(name) => self.here.put(Part::Name(name), token),
+            None => Ok(()),
+        }
+    }
+
+    pub fn number(&mut self, text: Text) -> Result<(), AssemblyFault>
+        ensures here { (negative : Bool) (magnitude : ℕ) → number_in (codes_of text.entry) ≡ number negative magnitude
+            → OnOk result ((o : Option Number) × IsNumber o negative magnitude
+            × HasPut self.old.here self.new.here self.old.here.body (part.Number o) (self.old.taken - 1)) }
+        ensures made { self.new.made ≡ self.old.made }
+        ensures around { KeepsAround self.old self.new }
+        ensures memory { IfErr result (λ e. e ≡ Memory) }
+    {
+        let token = self.last();
+        let number = number_of(text);
+        self.here.put(Part::Number(number), token)
+    }
+
+    pub fn width(&mut self, text: Text) -> Result<(), AssemblyFault>
+        ensures here { (sign : Signedness) (bits : ℕ) → width_in (codes_of text.entry) ≡ width sign bits
+            → OnOk result ((o : Option ℕ) × IsWidth o bits
+            × HasPut self.old.here self.new.here self.old.here.body (part.Width sign o) (self.old.taken - 1)) }
+        ensures made { self.new.made ≡ self.old.made }
+        ensures around { KeepsAround self.old self.new }
+        ensures memory { IfErr result (λ e. e ≡ Memory) }
+    {
+        let token = self.last();
+        let (signedness, width) = width_of(text);
+        self.here.put(Part::Width(signedness, width), token)
+    }
+}

@@ -1,0 +1,16 @@
+pub mod Moving
+pub mod Framing
+pub mod Ended
+pub mod Holding
+pub mod Opening
+pub mod Digits
+pub mod Rising
+pub mod LaterWorlds
+pub mod BuiltBehind
+pub mod Defining
+pub mod Linked
+pub mod Reached
+pub mod Made
+pub mod Bytes
+pub mod WaitingRows
+pub mod BuildingLemmas

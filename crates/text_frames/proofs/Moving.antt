@@ -1,0 +1,172 @@
+-- Where an action leads to, by the action.
+use Rattle.std.proofs.Common.{◌≡◌, ℕ, List, [], ◌∷◌, Some, Bool, true, false, refl}
+use Rattle.std.specs.Prelude.{◌==◌, if◌then◌else◌}
+use Rattle.ir_names.specs.declared.kinds.Signedness.{Signedness}
+use Rattle.ir_names.specs.declared.kinds.Signedness.TheVariants.{Signless, Signed, Unsigned}
+use Rattle.ir_print.specs.Pieces.{number, width}
+use Rattle.ir_grammar.specs.declared.grammar.Action.TheVariants as act
+use Rattle.ir_forest.specs.Meaning.{digits, number_in, width_in, tail}
+use Rattle.ir_grammar.specs.Nesting.{Position, at_root, behind_root_results, at_end, in_operation, in_operands, in_region, in_header, in_argument, in_block, behind_results, in_type, in_attribute, in_list, in_item, move}
+use Rattle.ir_formats.specs.Ordered.{Standing, moved_by, moved_out}
+use Rattle.text_frames.specs.Frames.{FrameSort, an_operation, some_operands, a_region, a_block, a_type, an_attribute, a_list, an_item, sort_at, TakesParts, EndsAt}
+use Rattle.text_frames.proofs.Ended.{Hollow}
+
+-- something of this sort begins, and behind it reading goes on in what is around it
+pub record GoesIn (sort : FrameSort) (at : Position) (around : List Position) (next : Standing) : Type 0 where
+  pub inner : Position
+  pub outer : Position
+  pub leads : record { here = inner; around = outer ∷ around } ≡ next
+  pub stays : sort_at outer ≡ sort_at at
+  pub is_sort : sort ≡ sort_at inner
+  pub ends : EndsAt sort outer
+
+-- reading goes on at another position in the same
+pub record GoesTo (at : Position) (around : List Position) (next : Standing) : Type 0 where
+  pub to : Position
+  pub leads : record { here = to; around = around } ≡ next
+  pub stays : sort_at to ≡ sort_at at
+
+-- reading stays where parts are taken
+pub record Stays (at : Position) (around : List Position) (next : Standing) : Type 0 where
+  pub leads : record { here = at; around = around } ≡ next
+  pub takes : TakesParts (sort_at at)
+
+module _ (around : List Position) (next : Standing) where
+  pub operation_begins : (p : Position) (n : ℕ) → moved_by (move p (act.Operation n)) around ≡ Some next → GoesIn an_operation p around next
+  operation_begins at_root n h = record { inner = in_operation; outer = at_end; leads = cc; stays = refl; is_sort = refl; ends = tt }
+  operation_begins behind_root_results n h = record { inner = in_operation; outer = at_end; leads = cc; stays = refl; is_sort = refl; ends = tt }
+  operation_begins in_block n h = record { inner = in_operation; outer = in_block; leads = cc; stays = refl; is_sort = refl; ends = tt }
+  operation_begins behind_results n h = record { inner = in_operation; outer = in_block; leads = cc; stays = refl; is_sort = refl; ends = tt }
+  operation_begins _ n h = cc
+
+  pub region_begins : (p : Position) → moved_by (move p act.BeginRegion) around ≡ Some next → GoesIn a_region p around next
+  region_begins in_operation h = record { inner = in_region; outer = in_operation; leads = cc; stays = refl; is_sort = refl; ends = refl }
+  region_begins _ h = cc
+
+  pub block_begins : (p : Position) → moved_by (move p act.Label) around ≡ Some next → GoesIn a_block p around next
+  block_begins in_region h = record { inner = in_header; outer = in_region; leads = cc; stays = refl; is_sort = refl; ends = refl }
+  block_begins _ h = cc
+
+  pub type_begins : (p : Position) (n : ℕ) → moved_by (move p (act.BeginType n)) around ≡ Some next → GoesIn a_type p around next
+  type_begins in_operation n h = record { inner = in_type; outer = in_operation; leads = cc; stays = refl; is_sort = refl; ends = tt }
+  type_begins in_type n h = record { inner = in_type; outer = in_type; leads = cc; stays = refl; is_sort = refl; ends = tt }
+  type_begins in_attribute n h = record { inner = in_type; outer = in_attribute; leads = cc; stays = refl; is_sort = refl; ends = tt }
+  type_begins in_item n h = record { inner = in_type; outer = in_item; leads = cc; stays = refl; is_sort = refl; ends = tt }
+  type_begins in_argument n h = record { inner = in_type; outer = in_header; leads = cc; stays = refl; is_sort = refl; ends = tt }
+  type_begins _ n h = cc
+
+  pub attribute_begins : (p : Position) (n : ℕ) → moved_by (move p (act.BeginAttribute n)) around ≡ Some next → GoesIn an_attribute p around next
+  attribute_begins in_operation n h = record { inner = in_attribute; outer = in_operation; leads = cc; stays = refl; is_sort = refl; ends = tt }
+  attribute_begins in_type n h = record { inner = in_attribute; outer = in_type; leads = cc; stays = refl; is_sort = refl; ends = tt }
+  attribute_begins in_attribute n h = record { inner = in_attribute; outer = in_attribute; leads = cc; stays = refl; is_sort = refl; ends = tt }
+  attribute_begins in_item n h = record { inner = in_attribute; outer = in_item; leads = cc; stays = refl; is_sort = refl; ends = tt }
+  attribute_begins _ n h = cc
+
+  pub list_begins : (p : Position) → moved_by (move p act.BeginList) around ≡ Some next → GoesIn a_list p around next
+  list_begins in_operation h = record { inner = in_list; outer = in_operation; leads = cc; stays = refl; is_sort = refl; ends = tt }
+  list_begins in_type h = record { inner = in_list; outer = in_type; leads = cc; stays = refl; is_sort = refl; ends = tt }
+  list_begins in_attribute h = record { inner = in_list; outer = in_attribute; leads = cc; stays = refl; is_sort = refl; ends = tt }
+  list_begins in_item h = record { inner = in_list; outer = in_item; leads = cc; stays = refl; is_sort = refl; ends = tt }
+  list_begins _ h = cc
+
+  pub item_begins : (p : Position) → moved_by (move p act.BeginItem) around ≡ Some next → GoesIn an_item p around next
+  item_begins in_list h = record { inner = in_item; outer = in_list; leads = cc; stays = refl; is_sort = refl; ends = refl }
+  item_begins _ h = cc
+
+  pub operands_begin : (p : Position) → moved_by (move p act.BeginOperands) around ≡ Some next → GoesIn some_operands p around next
+  operands_begin in_operation h = record { inner = in_operands; outer = in_operation; leads = cc; stays = refl; is_sort = refl; ends = refl }
+  operands_begin _ h = cc
+
+  pub name_stays : (p : Position) → moved_by (move p act.Name) around ≡ Some next → Stays p around next
+  name_stays in_operation h = record { leads = cc; takes = tt }
+  name_stays in_type h = record { leads = cc; takes = tt }
+  name_stays in_attribute h = record { leads = cc; takes = tt }
+  name_stays in_item h = record { leads = cc; takes = tt }
+  name_stays _ h = cc
+
+  pub number_stays : (p : Position) → moved_by (move p act.Number) around ≡ Some next → Stays p around next
+  number_stays in_operation h = record { leads = cc; takes = tt }
+  number_stays in_type h = record { leads = cc; takes = tt }
+  number_stays in_attribute h = record { leads = cc; takes = tt }
+  number_stays in_item h = record { leads = cc; takes = tt }
+  number_stays _ h = cc
+
+  pub width_stays : (p : Position) → moved_by (move p act.Width) around ≡ Some next → Stays p around next
+  width_stays in_operation h = record { leads = cc; takes = tt }
+  width_stays in_type h = record { leads = cc; takes = tt }
+  width_stays in_attribute h = record { leads = cc; takes = tt }
+  width_stays in_item h = record { leads = cc; takes = tt }
+  width_stays _ h = cc
+
+  pub result_goes : (p : Position) → moved_by (move p act.Result) around ≡ Some next → GoesTo p around next × Hollow (sort_at p)
+  result_goes at_root h = (record { to = behind_root_results; leads = cc; stays = refl }, tt)
+  result_goes behind_root_results h = (record { to = behind_root_results; leads = cc; stays = refl }, tt)
+  result_goes in_block h = (record { to = behind_results; leads = cc; stays = refl }, tt)
+  result_goes behind_results h = (record { to = behind_results; leads = cc; stays = refl }, tt)
+  result_goes _ h = cc
+
+  pub argument_goes : (p : Position) → moved_by (move p act.Argument) around ≡ Some next → GoesTo p around next × (sort_at p ≡ a_block)
+  argument_goes in_header h = (record { to = in_argument; leads = cc; stays = refl }, refl)
+  argument_goes _ h = cc
+
+  pub header_goes : (p : Position) → moved_by (move p act.Header) around ≡ Some next → GoesTo p around next × (sort_at p ≡ a_block)
+  header_goes in_header h = (record { to = in_block; leads = cc; stays = refl }, refl)
+  header_goes _ h = cc
+
+  pub operand_goes : (p : Position) → moved_by (move p act.Operand) around ≡ Some next → GoesTo p around next × (sort_at p ≡ some_operands)
+  operand_goes in_operands h = (record { to = in_operands; leads = cc; stays = refl }, refl)
+  operand_goes _ h = cc
+
+  -- an end leads behind what ends, which is of the sort that the action ends
+  pub operation_out : (p : Position) → moved_by (move p act.EndOperation) around ≡ Some next → (moved_out around ≡ Some next) × (sort_at p ≡ an_operation)
+  operation_out in_operation h = (h, refl)
+  operation_out _ h = cc
+
+  pub region_out : (p : Position) → moved_by (move p act.EndRegion) around ≡ Some next → (moved_out around ≡ Some next) × (sort_at p ≡ a_region)
+  region_out in_region h = (h, refl)
+  region_out _ h = cc
+
+  pub block_out : (p : Position) → moved_by (move p act.EndBlock) around ≡ Some next → (moved_out around ≡ Some next) × (sort_at p ≡ a_block)
+  block_out in_block h = (h, refl)
+  block_out _ h = cc
+
+  pub type_out : (p : Position) → moved_by (move p act.EndType) around ≡ Some next → (moved_out around ≡ Some next) × (sort_at p ≡ a_type)
+  type_out in_type h = (h, refl)
+  type_out _ h = cc
+
+  pub attribute_out : (p : Position) → moved_by (move p act.EndAttribute) around ≡ Some next → (moved_out around ≡ Some next) × (sort_at p ≡ an_attribute)
+  attribute_out in_attribute h = (h, refl)
+  attribute_out _ h = cc
+
+  pub operands_out : (p : Position) → moved_by (move p act.EndOperands) around ≡ Some next → (moved_out around ≡ Some next) × (sort_at p ≡ some_operands)
+  operands_out in_operands h = (h, refl)
+  operands_out _ h = cc
+
+  pub item_out : (p : Position) → moved_by (move p act.EndItem) around ≡ Some next → (moved_out around ≡ Some next) × (sort_at p ≡ an_item)
+  item_out in_item h = (h, refl)
+  item_out _ h = cc
+
+  pub list_out : (p : Position) → moved_by (move p act.EndList) around ≡ Some next → (moved_out around ≡ Some next) × (sort_at p ≡ a_list)
+  list_out in_list h = (h, refl)
+  list_out _ h = cc
+
+-- ---- single tokens
+
+number_by : (b : Bool) (m n : ℕ) → (negative : Bool) × (magnitude : ℕ) × ((if b then number true m else number false n) ≡ number negative magnitude)
+number_by true m n = (true, m, refl)
+number_by false m n = (false, n, refl)
+
+-- what a number token says is a number
+pub is_number : (cs : List ℕ) → (negative : Bool) × (magnitude : ℕ) × (number_in cs ≡ number negative magnitude)
+is_number [] = (false, 0, refl)
+is_number (c ∷ cs) = number_by (c == 45) (digits cs) (digits (c ∷ cs))
+
+width_by : (b d : Bool) (l m n : ℕ) → (sign : Signedness) × (bits : ℕ) × ((if b then width Signed l else (if d then width Unsigned m else width Signless n)) ≡ width sign bits)
+width_by true d l m n = (Signed, l, refl)
+width_by false true l m n = (Unsigned, m, refl)
+width_by false false l m n = (Signless, n, refl)
+
+-- what a width token says is a width
+pub is_width : (cs : List ℕ) → (sign : Signedness) × (bits : ℕ) × (width_in cs ≡ width sign bits)
+is_width [] = (Signless, 0, refl)
+is_width (c ∷ cs) = width_by (c == 115) (c == 117) (digits (tail cs)) (digits (tail cs)) (digits cs)

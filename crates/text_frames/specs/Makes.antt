@@ -1,0 +1,20 @@
+-- What is open and what is put where.
+use Rattle.std.specs.Prelude.{List, [], ◌∷◌, Option, None}
+use Rattle.ir_base.specs.declared.types.TypeHandle.{TypeHandle}
+use Rattle.ir_program.specs.declared.handles.Ptr.{Ptr}
+use Rattle.ir_program.specs.declared.handles.BasicBlock.{BasicBlock}
+use Rattle.ir_print.specs.declared.format.Part.{Part}
+use Rattle.ir_print.specs.declared.format.Part.TheVariants as part
+use Rattle.text_frames.specs.declared.opened.Body.{Body}
+use Rattle.text_frames.specs.declared.opened.Body.TheVariants as body
+
+-- the types among parts
+abbrev pub types_in : {D K A T : Type 0} → List (Part D K A T) → List TypeHandle
+types_in [] = []
+types_in (part.«Type» ty ∷ ps) = ty ∷ types_in ps
+types_in (_ ∷ ps) = types_in ps
+
+-- the block that is open with this body
+abbrev pub block_in : {D K A T : Type 0} → Body D K A T → Option (Ptr BasicBlock)
+block_in (body.Block b) = b.block
+block_in _ = None

@@ -1,0 +1,11 @@
+//! What is open while a text is read into a context, and what has been made of it: numbers and widths of tokens, types,
+//! attributes and what operations are made with, and the operands that are linked once all values are made.
+#![tactic(auto)]
+
+pub mod assembly;
+pub mod building;
+pub mod linking;
+pub mod making;
+pub mod opened;
+pub mod source;
+pub mod waiting;

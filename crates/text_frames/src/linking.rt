@@ -1,0 +1,93 @@
+//! The operands of the operations of a text, once all values are made.
+ghost use Rattle.std.specs.Prelude.{◌≡◌, ◌∷◌, [], ℕ, List, Some, None, IsSome, OnOk};
+ghost use Rattle.ir_program.specs.declared.handles.IRNode.{IRNode};
+ghost use Rattle.ir_program.specs.declared.handles.Value.{Value};
+ghost use Rattle.text_dialect.specs.Seen.{Seen, seen};
+ghost use Rattle.text_frames.specs.building.Kept.{GivesNumbers};
+ghost use Rattle.text_frames.specs.building.Loose.{IsDefinedValue};
+ghost use Rattle.text_frames.specs.building.Made.{LinksOperands};
+ghost use Rattle.text_frames.specs.Linking.{meant, AreMeant, CanLink, Links};
+ghost use Rattle.text_frames.specs.Raised.{AreWaiting, HoldsAllNew};
+
+use crate::assembly::Assembly;
+use crate::building::link_operands;
+use ir_context::Context;
+use ir_program::{Operation, Ptr, Value};
+use ir_scopes::scopes::Resolution;
+use ir_types::DialectTables;
+use std::alloc::{AllocError, Global};
+
+/// The value that a token names.
+fn value_of(values: &[Option<Value>], resolution: &Resolution, token: usize) -> Option<Value>
+    ensures { result ≡ meant values.now resolution.now.definitions.items token }
+{
+    let number = resolution.definitions.get(token)?;
+    *values.get(*number)?
+}
+
+/// Gives an operation the operands that its names mean.
+fn link_one<D: DialectTables>(
+    alloc: Global,
+    ctx: &mut Context<D>,
+    resolution: &Resolution,
+    values: &[Option<Value>],
+    op: Ptr<Operation>,
+    tokens: &[usize],
+) -> Result<(), AllocError>
+    requires op { IsSome ((seen ctx.old).operation op) }
+    requires meant { (vs : List Value)
+        × AreMeant (seen ctx.old) values.now resolution.now.definitions.items vs tokens.now }
+    ensures linked { (vs : List Value)
+        → AreMeant (seen ctx.old) values.now resolution.now.definitions.items vs tokens.now
+        → OnOk result (LinksOperands (seen ctx.old) (seen ctx.new) op vs) }
+    // The loose things stay what they are, whatever the start was before which the operation wasn't there.
+    ensures held { (start : Seen D.OpKind D.Attr D.TypeKey) (xs : List IRNode) → HoldsAllNew start (seen ctx.old) xs
+        → start.operation op ≡ None → HoldsAllNew start (seen ctx.new) xs }
+    ensures numbers { GivesNumbers ctx.old.program ctx.new.program 0 }
+    ensures types { ctx.new.types ≡ ctx.old.types }
+{
+    for token in tokens {
+        if let Some(value) = value_of(values, resolution, *token) {
+            link_operands(alloc, ctx, op, &[value])?;
+        }
+    }
+    Ok(())
+}
+
+/// Gives each operation of a text the operands that its names mean.
+///
+/// # Errors
+/// Without memory some have theirs, and others not.
+pub fn link<D: DialectTables>(
+    alloc: Global,
+    ctx: &mut Context<D>,
+    resolution: &Resolution,
+    assembly: &Assembly,
+) -> Result<(), AllocError>
+    requires waiting { (start : Seen D.OpKind D.Attr D.TypeKey) × (mentions : List ℕ)
+        × AreWaiting start (seen ctx.old) assembly.now.pending.items mentions }
+    requires meant { CanLink (seen ctx.old) assembly.now.values.items resolution.now.definitions.items
+        assembly.now.pending.items }
+    ensures linked { OnOk result (Links (seen ctx.old) (seen ctx.new) assembly.now.values.items
+        resolution.now.definitions.items assembly.now.pending.items) }
+    // The loose things stay what they are, on an error too.
+    ensures held { (start : Seen D.OpKind D.Attr D.TypeKey) (mentions : List ℕ) (xs : List IRNode)
+        → AreWaiting start (seen ctx.old) assembly.now.pending.items mentions → HoldsAllNew start (seen ctx.old) xs
+        → HoldsAllNew start (seen ctx.new) xs }
+    ensures numbers { GivesNumbers ctx.old.program ctx.new.program 0 }
+    ensures types { ctx.new.types ≡ ctx.old.types }
+{
+    let pending = &assembly.pending;
+    for index in 0..pending.len() {
+        let tokens = pending.tokens(index);
+        link_one(
+            alloc,
+            ctx,
+            resolution,
+            &assembly.values,
+            pending.op(index),
+            tokens,
+        )?;
+    }
+    Ok(())
+}

@@ -1,6 +1,0 @@
-use Rattle.std.proofs.Common.{◌∙◌, ap}
-use Rattle.text_reading.specs.frames.Makes.{block_in}
-use Rattle.text_reading.proofs.assembling.assembling.Assembler.attach.Goals as goal
-
-pub append_operation-requires-clause-block : goal.append_operation-requires-clause-block
-append_operation-requires-clause-block g c = c.requires.block c.in-Some.block (ap block_in c.in-Block.is ∙ c.in-Some.is)

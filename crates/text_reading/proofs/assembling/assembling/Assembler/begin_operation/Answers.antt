@@ -1,9 +1,0 @@
-use Rattle.std.proofs.Common.{refl}
-use Rattle.std.proofs.lemmas.Result.{on_ok_weaker}
-use Rattle.text_reading.proofs.assembling.assembling.Assembler.begin_operation.Goals as goal
-
--- What begins depends neither on the spare operands before nor on those behind.
-pub returns-clause-begun : goal.returns-clause-begun
-returns-clause-begun g c = on_ok_weaker c.begin.result
-    (λ h. (record { kind = c.args.kind; operands = c.clear.new.self; regions = c.new-2.result }, record { here = h.here; around = h.around; taken = h.taken }, refl, c.clear.ensures.items, c.new-2.ensures.items))
-    c.begin.ensures.begun

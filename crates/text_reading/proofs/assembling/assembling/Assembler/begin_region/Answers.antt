@@ -1,5 +1,0 @@
-use Rattle.std.proofs.lemmas.Result.{on_ok_weaker}
-use Rattle.text_reading.proofs.assembling.assembling.Assembler.begin_region.Goals as goal
-
-pub returns-clause-begun : goal.returns-clause-begun
-returns-clause-begun g c = on_ok_weaker c.begin.result (λ h. (c.new.result, h, c.new.ensures.items)) c.begin.ensures.begun

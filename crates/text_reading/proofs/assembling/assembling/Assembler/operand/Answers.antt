@@ -1,5 +1,0 @@
-use Rattle.std.proofs.Common.{refl}
-use Rattle.text_reading.proofs.assembling.assembling.Assembler.operand.Goals as goal
-
-pub returns-in_ok-push-clause-here : goal.returns-in_ok-push-clause-here
-returns-in_ok-push-clause-here g c ks e = (c.push.new.self, refl, cc (e, c.in-Operands.is, c.in-Operands.tokens-is, c.in_ok-push.ensures.items, c.last-token.ensures))

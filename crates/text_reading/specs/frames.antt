@@ -1,7 +1,0 @@
-pub mod Waiting
-pub mod Opened
-pub mod Frames
-pub mod Worlds
-pub mod Raised
-pub mod Makes
-pub mod Linking

@@ -1,8 +1,0 @@
-//! The operation of a text is put into a context in one pass over what reading did ([`assemble`](assembling::assemble)).
-
-mod actions;
-pub mod assembling;
-mod beginning;
-mod ending;
-mod making;
-mod values;
