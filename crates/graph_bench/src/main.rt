@@ -2,7 +2,7 @@
 //! question (`none`, `post_order`, `topological_order`, `components`, `search` or `reverse`) and the number of nodes.
 #![tactic(auto)]
 
-use ir_graph::edge_lists::{Nothing, graph_of};
+use edge_graphs::{Nothing, graph_of};
 use ir_graph::{
     DFSTraversal, ReverseGraph, post_order, sccs_in_topological_order, topological_order,
 };

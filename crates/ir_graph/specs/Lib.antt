@@ -7,4 +7,3 @@ pub mod Reverse
 pub mod ReverseLaws
 pub mod ReverseNodes
 pub mod Sinks
-pub mod edge_lists

@@ -3,7 +3,6 @@
 
 mod block_labels;
 mod components;
-pub mod edge_lists;
 mod graph;
 mod local_edges;
 mod numbering;

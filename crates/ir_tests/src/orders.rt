@@ -1,6 +1,6 @@
 //! Orders and components.
 use crate::asserting::same;
-use ir_graph::edge_lists::{Nothing, graph_of};
+use edge_graphs::{Nothing, graph_of};
 use ir_graph::{
     post_order, post_order_by_component, sccs_in_topological_order, topological_order,
     topological_order_by_component,

@@ -1,6 +1,6 @@
 //! Graphs with their edges turned round.
 use crate::asserting::same;
-use ir_graph::edge_lists::{Nothing, graph_of};
+use edge_graphs::{Nothing, graph_of};
 use ir_graph::{ControlFlowGraph, HasLabel, ReverseGraph, ReverseNode};
 use std::alloc::{AllocError, Global};
 use std::test::Fail;

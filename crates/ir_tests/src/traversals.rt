@@ -1,6 +1,6 @@
 //! Searches from the entry.
 use crate::asserting::same;
-use ir_graph::edge_lists::{Nothing, graph_of};
+use edge_graphs::{Nothing, graph_of};
 use ir_graph::{DFSEdgeKind, DFSTraversal};
 use std::alloc::{AllocError, Global};
 use std::test::Fail;

@@ -2,8 +2,8 @@ use Rattle.std.proofs.Common.{length, sym, subst}
 use Rattle.digraph.specs.Graph.{successors, InRange}
 use Rattle.digraph.specs.Transpose.{AreTransposed}
 use Rattle.ir_graph.specs.Reverse.{CanReverse}
-use Rattle.ir_graph.specs.edge_lists.Numbers.{numbers}
-use Rattle.ir_graph.specs.declared.edge_lists.edges.Edges.{Edges}
+use Rattle.edge_graphs.specs.Numbers.{numbers}
+use Rattle.edge_graphs.specs.declared.edges.Edges.{Edges}
 use Rattle.ir_tests.proofs.reverse.reversed.Goals as goal
 
 pub rows_of-requires : goal.rows_of-requires

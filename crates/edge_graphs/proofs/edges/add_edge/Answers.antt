@@ -2,7 +2,7 @@ use Rattle.std.proofs.Common.{◌<◌, ◌++◌, ◌∷◌, [], length, refl, sy
 use Rattle.std.proofs.Math.ListN.{set}
 use Rattle.digraph.proofs.Reversing.{no_source, source_next}
 use Rattle.digraph.proofs.Searching.{successors_at}
-use Rattle.ir_graph.proofs.edge_lists.edges.add_edge.Goals as goal
+use Rattle.edge_graphs.proofs.edges.add_edge.Goals as goal
 
 pub returns : goal.returns
 returns c = λ a b h.

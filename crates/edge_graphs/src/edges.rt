@@ -34,7 +34,7 @@ impl ControlFlowGraph<Nothing> for Edges {
     ghost use Rattle.std.specs.Prelude.{length};
     ghost use Rattle.digraph.specs.Graph.{successors, InRange};
     ghost use Rattle.digraph.specs.Transpose.{AreTransposed};
-    ghost use Rattle.ir_graph.specs.edge_lists.Numbers.{numbers, first_number, numbers_distinct, first_in, onward_in, backward_in, converse_of, same_number};
+    ghost use Rattle.edge_graphs.specs.Numbers.{numbers, first_number, numbers_distinct, first_in, onward_in, backward_in, converse_of, same_number};
 
     type Node = usize;
 

@@ -1,7 +1,7 @@
 use Rattle.std.proofs.Common.{ℕ, Vec, Global, sym, subst}
 use Rattle.digraph.specs.Graph.{InRange}
-use Rattle.ir_graph.proofs.edge_lists.edges.graph_of.Goals as goal
-use Rattle.ir_graph.proofs.edge_lists.edges.graph_of.Goals.{then-from-len+then-to-len+in_ok-add_edge, else-from-len}
+use Rattle.edge_graphs.proofs.edges.graph_of.Goals as goal
+use Rattle.edge_graphs.proofs.edges.graph_of.Goals.{then-from-len+then-to-len+in_ok-add_edge, else-from-len}
 
 pub loop-from-preserved : goal.loop-from-preserved
 loop-from-preserved c = elim c.if-from-len.branch [

@@ -1,7 +1,7 @@
 use Rattle.std.proofs.Common.{◌≡◌, ◌<◌, length, sym, ap, ◌∙◌, arith, rules}
 use Rattle.digraph.proofs.Searching.{successors_at}
-use Rattle.ir_graph.specs.edge_lists.Numbers.{below}
-use Rattle.ir_graph.proofs.edge_lists.edges.EdgesControlFlowGraphNothing.num_successors.Goals as goal
+use Rattle.edge_graphs.specs.Numbers.{below}
+use Rattle.edge_graphs.proofs.edges.EdgesControlFlowGraphNothing.num_successors.Goals as goal
 
 pub index-requires : goal.index-requires
 index-requires c = let w = below (length c.args.self.now.rows.items) c.args.node.now c.requires.node in let t = c.requires.graph.1.len in let o = c.args.self.now.rows.ok.0 in omega (arith, w, t, o)

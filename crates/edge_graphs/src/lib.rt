@@ -1,4 +1,5 @@
 //! Graphs of control flow that are given as lists of edges, for tests and measurements.
+#![tactic(auto)]
 
 mod edges;
 
