@@ -3,8 +3,8 @@ ghost use Rattle.std.specs.Prelude.{◌<◌, IfOk, OnOk, length};
 ghost use Rattle.digraph.specs.Graph.{InRange};
 ghost use Rattle.digraph.specs.Transpose.{AreTransposed, IsEmptyRows};
 
-use crate::{ControlFlowGraph, HasLabel};
 use digraph::transposed;
+use ir_graph::{ControlFlowGraph, HasLabel};
 use std::alloc::{AllocError, Global};
 
 /// A context that holds nothing: a graph here holds its own edges.
