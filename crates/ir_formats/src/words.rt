@@ -73,7 +73,16 @@ pub fn spelled(alloc: Global, words: &[&'static str]) -> Result<Vec<Characters>,
     Ok(all)
 }
 
-/// Whether digits, one or more, stand from this place to the end.
+/// Whether a character is white space. Most of it are spaces, which are told by one comparison.
+fn is_blank(c: char) -> bool
+    ensures { result ≡ is_whitespace c }
+{
+    c == ' ' || c.is_whitespace()
+}
+
+/// Whether digits, one or more, stand from this place to the end. Few names get here, so that what most of them need is
+/// small enough to stand where it is asked for.
+#[inline(never)]
 fn are_digits(text: Text, from: usize) -> bool
     ensures { result ≡ are_digits (drop from (codes_of text.entry)) }
 {
@@ -189,10 +198,16 @@ fn code_before_end(text: Text, back: usize) -> usize
 /// The place of the guess at the number of a text. Names that end in numbers, as most do, have places of their own where
 /// these differ in their last four digits.
 fn guess_place(text: Text) -> usize {
-    let code = 1000 * code_before_end(text, 4)
-        + 100 * code_before_end(text, 3)
-        + 10 * code_before_end(text, 2)
-        + code_before_end(text, 1);
+    let code = match text {
+        // Most names have four characters or more, and are met so often that they get the short way.
+        Text::Bytes([.., third, second, first, last]) => {
+            1000 * *third as usize + 100 * *second as usize + 10 * *first as usize + *last as usize
+        }
+        _ => 1000 * code_before_end(text, 4)
+            + 100 * code_before_end(text, 3)
+            + 10 * code_before_end(text, 2)
+            + code_before_end(text, 1),
+    };
     code % GUESSES
 }
 
@@ -432,7 +447,7 @@ impl<'a> Spellings<'a> {
     {
         let mut at = 0;
         'reading: while at < chars.len() {
-            if chars.at(at).is_whitespace() {
+            if is_blank(chars.at(at)) {
                 at += 1;
                 continue;
             }
@@ -475,8 +490,8 @@ pub fn classify(alloc: Global, words: &[Characters], chars: Text) -> Result<Clas
     ensures { IfOk result (λ c. (ts : List Token)
         × AreClassified (spellings words.now) (codes_of chars.entry) ts c.starts.items c.kinds.items c.names.items) }
 {
-    // A token takes some six characters in most texts, with the white space before it.
-    let tokens = chars.len() / 6;
+    // A token takes some six characters in most texts, with the white space before it, and seldom less than 16 / 3.
+    let tokens = chars.len() / 16 * 3;
     let mut classified = Classified::with_capacity(alloc, tokens)?;
     let end = add_tokens(alloc, words, chars, tokens, &mut classified)?;
     classified.ended(end)

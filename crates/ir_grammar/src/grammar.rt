@@ -365,8 +365,8 @@ impl Grammar {
     {
         let start = [Symbol::Part(root)];
         let mut pending = Pending::new(alloc, &start);
-        // Reading does less than one thing more at a token, in most texts, than to take it.
-        let mut events = Vec::with_capacity(alloc, kinds.len().saturating_mul(2))?;
+        // Reading seldom does more than nine things at eight tokens, in most texts, beside taking them.
+        let mut events = Vec::with_capacity(alloc, kinds.len().saturating_mul(17) / 8)?;
         let mut depth = Some(0);
         for taken in 0..kinds.len() {
             if !self.advance(&mut pending, &mut events, &mut depth, deepest, kinds[taken])? {

@@ -17,8 +17,8 @@ use Rattle.kit_ops.specs.declared.attributes.KitLocation.{KitLocation}
 use Rattle.kit_ops.specs.declared.attributes.KitLocation.TheVariants.{Unknown}
 use Rattle.kit.specs.declared.dialect.Kit.{Kit}
 use Rattle.kit.specs.declared.dialect.Unused.{Unused}
-use Rattle.kit_ops.specs.declared.kinds.Arithmetic.{Arithmetic}
-use Rattle.kit_ops.specs.declared.kinds.Comparison.{Comparison}
+use Rattle.kit_ops.specs.declared.arithmetic.Arithmetic.{Arithmetic}
+use Rattle.kit_ops.specs.declared.arithmetic.Comparison.{Comparison}
 use Rattle.kit_ops.specs.declared.kinds.KitOp.{KitOp}
 use Rattle.kit_ops.specs.declared.kinds.KitOp.TheVariants as ops
 use Rattle.kit_ops.specs.declared.types.KitType.{KitType}

@@ -1,7 +1,7 @@
 -- Worked rows, by computation.
 use Rattle.std.proofs.Common.{◌≡◌, ℕ, zero, suc, Bool, true, false, [], ◌∷◌, Some, None, refl}
-use Rattle.kit_ops.specs.declared.kinds.Arithmetic.TheVariants.{Add, Sub, Mul}
-use Rattle.kit_ops.specs.declared.kinds.Comparison.TheVariants.{Equal}
+use Rattle.kit_ops.specs.declared.arithmetic.Arithmetic.TheVariants.{Add, Sub, Mul}
+use Rattle.kit_ops.specs.declared.arithmetic.Comparison.TheVariants.{Equal}
 use Rattle.kit_behaviour.specs.Machine.{Calculated, Compared, Edge, Const, Calc, Call, Plain, Nonzero, Branch, Return, Fun, State, Going, Ended, Trapped, FunctionsByPath, start, run, left_in}
 use Rattle.kit_behaviour.specs.InsertedConstants.{same_name, Made, with_constants}
 use Rattle.kit_behaviour.specs.RemovedValues.{thinned}

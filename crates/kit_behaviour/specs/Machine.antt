@@ -2,8 +2,8 @@
 -- texts. Values are natural numbers; of an integer type of width w, those below 2 ^ w.
 use Rattle.std.specs.Prelude.{◌≡◌, ℕ, zero, suc, ◌*◌, ◌≤◌, Bool, List, [], ◌∷◌, ◌++◌, map, Option, Some}
 use Rattle.std.specs.Prelude.{None, if◌then◌else◌, nat_eq, length, slice_get, drop}
-use Rattle.kit_ops.specs.declared.kinds.Arithmetic.{Arithmetic}
-use Rattle.kit_ops.specs.declared.kinds.Comparison.{Comparison}
+use Rattle.kit_ops.specs.declared.arithmetic.Arithmetic.{Arithmetic}
+use Rattle.kit_ops.specs.declared.arithmetic.Comparison.{Comparison}
 use Rattle.kit_ops.specs.Arithmetic as numbers
 use Rattle.kit_ops.specs.Arithmetic.{compare, bit}
 

@@ -5,8 +5,8 @@ use Rattle.ir_program.specs.declared.handles.Operation.{Operation}
 use Rattle.ir_program.specs.declared.handles.BasicBlock.{BasicBlock}
 use Rattle.ir_program.specs.declared.handles.Value.{Value}
 use Rattle.ir_trees.specs.Searched.{Lists}
-use Rattle.kit_ops.specs.declared.kinds.Arithmetic.{Arithmetic}
-use Rattle.kit_ops.specs.declared.kinds.Comparison.{Comparison}
+use Rattle.kit_ops.specs.declared.arithmetic.Arithmetic.{Arithmetic}
+use Rattle.kit_ops.specs.declared.arithmetic.Comparison.{Comparison}
 use Rattle.kit_flat.specs.Machine as machine
 use Rattle.kit_flat.specs.Machine.{MachineOp, Other}
 use Rattle.kit_flat.specs.Forms.{Form, Constant, Calculate, Compare, Emit, Call, Br, CondBr, Return, op_of}

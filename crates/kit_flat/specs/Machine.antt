@@ -3,8 +3,8 @@
 -- numbers of a flat form.
 use Rattle.std.specs.Prelude.{ℕ, zero, suc, Bool, List, [], ◌∷◌, ◌++◌, map, drop, Option, Some, None}
 use Rattle.std.specs.Prelude.{if◌then◌else◌, option_map}
-use Rattle.kit_ops.specs.declared.kinds.Arithmetic.{Arithmetic}
-use Rattle.kit_ops.specs.declared.kinds.Comparison.{Comparison}
+use Rattle.kit_ops.specs.declared.arithmetic.Arithmetic.{Arithmetic}
+use Rattle.kit_ops.specs.declared.arithmetic.Comparison.{Comparison}
 use Rattle.kit_ops.specs.Arithmetic.{calc, compare, bit}
 
 -- ---- functions

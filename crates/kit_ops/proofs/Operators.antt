@@ -1,22 +1,23 @@
 -- What holds of each arithmetic and of each comparison, kind by kind; proofs elsewhere go by these.
-use Rattle.std.proofs.Common.{◌≡◌, ℕ, zero, suc, ◌+◌, ◌-◌, ◌*◌, ◌/◌, ◌%◌, ◌^◌, ◌<◌, true, false, Option, Some, None}
-use Rattle.std.proofs.Common.{refl, ap, subst, arith}
+use Rattle.std.proofs.Common.{◌≡◌, ℕ, zero, suc, ◌+◌, ◌-◌, ◌*◌, ◌/◌, ◌%◌, ◌^◌, ◌<◌, ◌≤◌, true, false, Option, Some, None}
+use Rattle.std.proofs.Common.{refl, ap, sym, subst, ◌∙◌, arith}
 use Rattle.std.specs.Prelude.{slice_get}
 use Rattle.std.proofs.lemmas.Bool.{false≢true}
 use Rattle.std.proofs.lemmas.Nat.{pow_pos}
-use Rattle.std.proofs.Math.Nat.{mod-lt, div-le_self}
+use Rattle.std.proofs.Math.Nat.{mod-lt, mod-add-mod, mod-add-div', mod-eq_of_lt, add-mod_right, add-mul-mod_self_right, div-le_self}
+use Rattle.kit_ops.proofs.Widths.{reduced_twice}
 use Rattle.kit_ops.specs.Arithmetic.{named_arithmetic, operators, arithmetic_number, comparison_number}
 use Rattle.kit_ops.specs.Arithmetic.{quotient, calc}
 use Rattle.kit_ops.specs.Named.{kind_named}
 use Rattle.kit_ops.specs.Table.{row_of}
-use Rattle.kit_ops.specs.declared.kinds.Arithmetic.{Arithmetic}
-use Rattle.kit_ops.specs.declared.kinds.Arithmetic.TheVariants.{Add, Sub, Mul, Div}
-use Rattle.kit_ops.specs.declared.kinds.Comparison.{Comparison}
-use Rattle.kit_ops.specs.declared.kinds.Comparison.TheVariants.{Equal, NotEqual, Less, LessOrEqual}
+use Rattle.kit_ops.specs.declared.arithmetic.Arithmetic.{Arithmetic}
+use Rattle.kit_ops.specs.declared.arithmetic.Arithmetic.TheVariants.{Add, Sub, Mul, Div}
+use Rattle.kit_ops.specs.declared.arithmetic.Comparison.{Comparison}
+use Rattle.kit_ops.specs.declared.arithmetic.Comparison.TheVariants.{Equal, NotEqual, Less, LessOrEqual}
 use Rattle.kit_ops.specs.declared.kinds.KitOp.{KitOp}
 use Rattle.kit_ops.specs.declared.kinds.KitOp.TheVariants as ops
-use Rattle.kit_ops.specs.contracts.kinds.ArithmeticPartialEq.TheImpl as of_arithmetic
-use Rattle.kit_ops.specs.contracts.kinds.ComparisonPartialEq.TheImpl as of_comparisons
+use Rattle.kit_ops.specs.contracts.arithmetic.ArithmeticPartialEq.TheImpl as of_arithmetic
+use Rattle.kit_ops.specs.contracts.arithmetic.ComparisonPartialEq.TheImpl as of_comparisons
 
 -- ---- what compares equal is the same
 
@@ -117,3 +118,33 @@ calc_total Add w x y h = ((x + y) % 2 ^ w, refl)
 calc_total Sub w x y h = ((x + (2 ^ w - y % 2 ^ w)) % 2 ^ w, refl)
 calc_total Mul w x y h = (x * y % 2 ^ w, refl)
 calc_total Div w x y h = absurd (cc h)
+
+-- ---- differences
+
+-- what is left of a sum, less one part, is the other part
+sum_less : (r y m : ℕ) → zero < m → (r + y + (m - y % m)) % m ≡ r % m
+sum_less r y m h =
+    let l = mod-lt y h in
+    let d = mod-add-div' y m in
+    let e : r + y + (m - y % m) ≡ r + suc (y / m) * m = omega (arith, d, l) in
+    ap (λ n. n % m) e ∙ add-mul-mod_self_right r (suc (y / m)) m
+
+-- the difference r of x and y, modulo 2 ^ 64, and then modulo a smaller power
+wraps : (x y r w : ℕ) → w ≤ 64 → (r + y) % 2 ^ 64 ≡ x → r % 2 ^ w ≡ (x + (2 ^ w - y % 2 ^ w)) % 2 ^ w
+wraps x y r w h e =
+    let k = 2 ^ w - y % 2 ^ w in
+    let a : x % 2 ^ w ≡ (r + y) % 2 ^ w = ap (λ n. n % 2 ^ w) (sym e) ∙ reduced_twice (r + y) w h in
+    sym (sum_less r y (2 ^ w) (pow_pos w))
+    ∙ sym (mod-add-mod (r + y) (2 ^ w) k)
+    ∙ ap (λ n. (n + k) % 2 ^ w) (sym a)
+    ∙ mod-add-mod x (2 ^ w) k
+
+undone : (x y : ℕ) → x < 2 ^ 64 → y < 2 ^ 64 → ((x + (2 ^ 64 - y)) % 2 ^ 64 + y) % 2 ^ 64 ≡ x
+undone x y h k =
+    let e : x + (2 ^ 64 - y) + y ≡ x + 2 ^ 64 = omega arith in
+    mod-add-mod (x + (2 ^ 64 - y)) (2 ^ 64) y ∙ ap (λ n. n % 2 ^ 64) e ∙ add-mod_right x (2 ^ 64) ∙ mod-eq_of_lt h
+
+-- a difference modulo 2 ^ 64, and then modulo a smaller power, is that modulo the smaller power
+pub difference_reduced : (x y w : ℕ) → w ≤ 64 → x < 2 ^ 64 → y < 2 ^ 64 →
+    (x + (2 ^ 64 - y)) % 2 ^ 64 % 2 ^ w ≡ (x + (2 ^ w - y % 2 ^ w)) % 2 ^ w
+difference_reduced x y w h k l = wraps x y ((x + (2 ^ 64 - y)) % 2 ^ 64) w h (undone x y k l)

@@ -3,8 +3,27 @@ ghost use Rattle.std.specs.Prelude.{◌≡◌, ◌≤◌, ◌+◌, ◌-◌, ◌*
 ghost use Rattle.kit_ops.specs.Arithmetic.{named_arithmetic, comparison_name, operators, calc, compare, bit};
 ghost use Rattle.kit_ops.specs.Table.{arithmetic_row, comparison_row, said_by};
 
-use crate::kinds::{Arithmetic, Comparison, KitOp};
+use crate::kinds::KitOp;
 use crate::table::{Row, arithmetic, comparison};
+
+/// The operations of arithmetic on two integers of one type, whose result is modulo 2^w for a type of w bits.
+#[derive(Clone, Copy, Debug, PartialEq, Eq)]
+pub enum Arithmetic {
+    Add,
+    Sub,
+    Mul,
+    /// The quotient of unsigned numbers; it traps where the divisor is 0.
+    Div,
+}
+
+/// Comparisons of two integers of one type, as unsigned numbers. The result is one bit.
+#[derive(Clone, Copy, Debug, PartialEq, Eq)]
+pub enum Comparison {
+    Equal,
+    NotEqual,
+    Less,
+    LessOrEqual,
+}
 
 /// A number modulo 2 to the power of the width.
 #[inline]
@@ -16,6 +35,7 @@ fn modulo(x: u64, width: u32) -> u64
 }
 
 /// The difference modulo 2 to the power of the width.
+#[tactic(auto, using(crate::proofs::Operators::difference_reduced))]
 #[inline]
 fn difference(x: u64, y: u64, width: u32) -> u64
     requires { width ≤ 64 }
@@ -50,6 +70,7 @@ impl Arithmetic {
     }
 
     /// The result on two numbers of so many bits, or `None` where it traps: a division by zero does.
+    #[tactic(auto, using(crate::proofs::Widths::reduced_twice))]
     #[inline]
     pub fn calculate(self, width: u32, x: u64, y: u64) -> Option<u64>
         requires { width ≤ 64 }

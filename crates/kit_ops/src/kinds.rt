@@ -1,23 +1,6 @@
 //! The kinds of operations of `kit`.
 
-/// The operations of arithmetic on two integers of one type, whose result is modulo 2^w for a type of w bits.
-#[derive(Clone, Copy, Debug, PartialEq, Eq)]
-pub enum Arithmetic {
-    Add,
-    Sub,
-    Mul,
-    /// The quotient of unsigned numbers; it traps where the divisor is 0.
-    Div,
-}
-
-/// Comparisons of two integers of one type, as unsigned numbers. The result is one bit.
-#[derive(Clone, Copy, Debug, PartialEq, Eq)]
-pub enum Comparison {
-    Equal,
-    NotEqual,
-    Less,
-    LessOrEqual,
-}
+use crate::arithmetic::{Arithmetic, Comparison};
 
 /// The kinds of operations.
 #[derive(Clone, Copy, Debug, PartialEq, Eq)]

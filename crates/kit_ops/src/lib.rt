@@ -8,8 +8,9 @@ mod pass;
 mod table;
 mod types;
 
+pub use arithmetic::{Arithmetic, Comparison};
 pub use attributes::{IntegerAttr, KitAttr, KitAttrKind, KitLocation, keys};
-pub use kinds::{Arithmetic, Comparison, KitOp};
+pub use kinds::KitOp;
 pub use pass::KitPass;
 pub use table::{Count, Row};
 pub use types::{FunctionType, IntegerType, KitType, KitTypeKind};

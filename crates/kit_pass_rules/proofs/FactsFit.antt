@@ -9,9 +9,9 @@ use Rattle.kit_checks.specs.Words.{Every, integer_type}
 use Rattle.kit_checks.specs.Words as words
 use Rattle.kit_ops.specs.Arithmetic.{calc, compare}
 use Rattle.kit_ops.specs.declared.attributes.IntegerAttr.{IntegerAttr}
-use Rattle.kit_ops.specs.declared.kinds.Arithmetic.{Arithmetic}
+use Rattle.kit_ops.specs.declared.arithmetic.Arithmetic.{Arithmetic}
 use Rattle.kit_ops.proofs.Operators.{calc_below}
-use Rattle.kit_ops.specs.declared.kinds.Comparison.{Comparison}
+use Rattle.kit_ops.specs.declared.arithmetic.Comparison.{Comparison}
 use Rattle.kit_ops.specs.declared.types.IntegerType.{IntegerType}
 use Rattle.kit_ops.specs.declared.types.KitType.{KitType}
 use Rattle.kit_ops.specs.declared.types.KitType.TheVariants as types

@@ -5,7 +5,7 @@ use Rattle.std.proofs.lemmas.List.{append-nil, take_at, drop_at}
 use Rattle.ir_trees.specs.Names.{Names, Contents}
 use Rattle.ir_trees.specs.Searched.{AreDistinct}
 use Rattle.ir_trees.specs.Trees.{Head, Operations, Blocks, Tree, end, operation, block, region, Root}
-use Rattle.kit_ops.specs.declared.kinds.Comparison.TheVariants as comparison
+use Rattle.kit_ops.specs.declared.arithmetic.Comparison.TheVariants as comparison
 use Rattle.kit_ops.specs.declared.kinds.KitOp.{KitOp}
 use Rattle.kit_ops.specs.declared.kinds.KitOp.TheVariants as ops
 use Rattle.kit_behaviour.specs.Machine.{Arith, Calculated, Compared, Edge, Select, Plain, Nonzero}

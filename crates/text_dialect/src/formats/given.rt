@@ -13,7 +13,7 @@ pub trait ReadDialect: TextDialect {
     /// Where each part of the grammar may stand, and where it leads to.
     ghost leads: { PartPositions };
 
-    /// The table of the grammar that the dialect's formats make, as [`table_of`](crate::formats::table_of) writes it.
+    /// The table of the grammar that the dialect's formats make, as [`table_of`](crate::table_of) writes it.
     fn table() -> &'static [PartTable]
         ensures { fits (grammar_value Self.formats (map plain_part result.now)) ≡ true };
 

@@ -74,7 +74,7 @@ fn kind_texts<D: TextDialect>(alloc: Global) -> Result<KindTexts, AllocError>
 }
 
 /// The table of the grammar that a dialect's formats make, worked out of its rules: what a
-/// [`ReadDialect`](crate::formats::ReadDialect) gives. If the next token doesn't decide each step, none fits.
+/// [`ReadDialect`](crate::ReadDialect) gives. If the next token doesn't decide each step, none fits.
 pub fn table_of<D: TextDialect>(alloc: Global) -> Result<Vec<Facts>, AllocError> {
     let kinds = kind_texts::<D>(alloc)?;
     table_of_kinds(alloc, &kinds)

@@ -9,14 +9,14 @@ use Rattle.ir_formats.proofs.words.Spellings.classify.Goals as goal
 pub reading-init : goal.reading-init
 reading-init c = (classifying_none _ _ _ _ _ _ _ c.requires.words c.requires.starts c.requires.kinds c.requires.names, c.requires.signs)
 
-pub reading-preserved-then-is_whitespace : goal.reading-preserved-then-is_whitespace
-reading-preserved-then-is_whitespace c =
+pub reading-preserved-then-is_blank : goal.reading-preserved-then-is_blank
+reading-preserved-then-is_blank c =
     let white : is_whitespace (slice_index (codes_of c.args.chars) c.reading.at) ≡ true =
-    rw (← c.at.ensures.character) (sym c.if-is_whitespace.ensures) in
+    rw (← c.at.ensures.character) (sym c.if-is_blank.ensures) in
     (classifying_gap _ (codes_of c.args.chars) _ c.reading.at _ _ _ _ _ (omega arith) white c.reading.invariant.0, c.reading.invariant.1)
 
 pub classed-requires-clause-visible : goal.classed-requires-clause-visible
-classed-requires-clause-visible c = rw (← c.at.ensures.character) (sym c.if-is_whitespace.ensures)
+classed-requires-clause-visible c = rw (← c.at.ensures.character) (sym c.if-is_blank.ensures)
 
 pub returns-in-Bad : goal.returns-in-Bad
 returns-in-Bad c =
