@@ -23,7 +23,7 @@ use Rattle.opt_inside.proofs.Around.{HasLists}
 use Rattle.kit_checks.specs.declared.naming.Spot.{Spot}
 use Rattle.kit_checks.specs.declared.walk_order.WalkOrder.{WalkOrder}
 use Rattle.kit_checks.specs.Located.{IsAround, IsBody, IsSiteOf}
-use Rattle.kit_checks.specs.Naming.{IsEarlier, IsSpotOfOperation, IsOrderOf, MayName, MayNameFrom, number_in}
+use Rattle.kit_checks.specs.Naming.{IsEarlier, IsNumberedBelow, IsSpotOfOperation, MayName, MayNameFrom, OrdersBefore, number_in}
 use Rattle.kit_checks.specs.Rules.{OperandsAreVisible}
 use Rattle.kit_checks.specs.Sites.{Around, Body, Site, operation_list}
 use Rattle.kit_checks.specs.Words.{Every, first_body, results_of, values_before, values_if, values_in, values_of, visible}
@@ -303,22 +303,22 @@ block_inside c lists root op b other inside stands = ⊎_elim
     (λ h. subst (λ x. StandsInside c (OperationNode root) (BlockNode x)) ((lists.operations_once op h.0 b h.1.index stands.index h.1.here stands.here).0) h.2)
     (inside_block c (OperationNode root) (OperationNode op) op inside refl)
 
--- of two operations of a block the one with the smaller number is the earlier one
-pub order_tells : {O B : Type 0} (c : Program O B) (b : Ptr BasicBlock) (order : WalkOrder) → IsOrderOf c b order
-    → (p op : Ptr Operation) → StandsInBlock c p b → StandsInBlock c op b
-    → number_in order p < number_in order op → IsEarlier (operations_in c b) p op
-order_tells c b order orders p op in_p in_op less = ⊎_elim
+-- of two operations of a block the one with a number below the other's is the earlier one
+pub order_tells : {O B : Type 0} (c : Program O B) (b : Ptr BasicBlock) (order : WalkOrder) (p op : Ptr Operation)
+    → OrdersBefore c b op order → StandsInBlock c p b → StandsInBlock c op b
+    → IsNumberedBelow order p op → IsEarlier (operations_in c b) p op
+order_tells c b order p op orders in_p in_op below = ⊎_elim
     (λ (same : in_p.index ≡ in_op.index).
     let q : Some p ≡ Some op = sym in_p.here ∙ ap (slice_get (operations_in c b)) same ∙ in_op.here in
     let r : p ≡ op = cc in
     let n : number_in order p ≡ number_in order op = ap (number_in order) r in
-    absurd (omega arith))
+    let less = below.1 in
+    absurd (omega (arith, n, less)))
     (λ rest. ⊎_elim
     (λ (before : in_p.index < in_op.index).
     record { first = in_p.index; second = in_op.index; here = in_p.here; there = in_op.here; before = before })
     (λ (behind : in_op.index < in_p.index).
-    let more : number_in order op < number_in order p = orders op p
-    (record { first = in_op.index; second = in_p.index; here = in_op.here; there = in_p.here; before = behind }) in
-    absurd (omega arith))
+    absurd (orders.behind p
+    (record { first = in_op.index; second = in_p.index; here = in_op.here; there = in_p.here; before = behind }) below))
     rest)
     (cases_order in_p.index in_op.index)

@@ -29,6 +29,10 @@ pub record IsEarlier {X : Type 0} (xs : List X) (x y : X) : Type 0 where
 abbrev pub number_in : WalkOrder → Ptr Operation → ℕ
 number_in order op = slice_index order.numbers.items op.key.slot
 
+-- the first operation has a number, which is less than the other's
+abbrev pub IsNumberedBelow : WalkOrder → Ptr Operation → Ptr Operation → Type 0
+IsNumberedBelow order p q = (0 < number_in order p) × (number_in order p < number_in order q)
+
 -- each operation has the number that it had
 abbrev pub KeepsNumbers : WalkOrder → WalkOrder → Type 0
 KeepsNumbers old new = (p : Ptr Operation) → number_in new p ≡ number_in old p
@@ -62,15 +66,19 @@ module _ {O B : Type 0} (c : Program O B) where
   abbrev pub MayName : Ptr Operation → Spot → Value → Type 0
   MayName op spot v = MayNameFrom op spot v.definer
 
-  -- of two operations of the block the earlier one has the smaller number
-  abbrev pub IsOrderOf : Ptr BasicBlock → WalkOrder → Type 0
-  IsOrderOf block order =
-      (p q : Ptr Operation) → IsEarlier (operations_in c block) p q → number_in order p < number_in order q
+  -- of the other operations of the block, the order has smaller numbers than this one's for those before it alone
+  pub record OrdersBefore (block : Ptr BasicBlock) (op : Ptr Operation) (order : WalkOrder) : Type 0 where
+    pub before : (p : Ptr Operation) → IsEarlier (operations_in c block) p op → IsNumberedBelow order p op
+    pub behind : (p : Ptr Operation) → IsEarlier (operations_in c block) op p → IsNumberedBelow order p op → ⊥
 
   -- so in each block inside the root
+  abbrev pub IsOrderAt : Ptr Operation → Ptr Operation → WalkOrder → Type 0
+  IsOrderAt root op order =
+      (block : Ptr BasicBlock) → StandsInside c (OperationNode root) (BlockNode block) → OrdersBefore block op order
+
+  -- so for each operation
   abbrev pub AreInWalkOrder : Ptr Operation → WalkOrder → Type 0
-  AreInWalkOrder root order =
-      (block : Ptr BasicBlock) → StandsInside c (OperationNode root) (BlockNode block) → IsOrderOf block order
+  AreInWalkOrder root order = (op : Ptr Operation) → IsOrderAt root op order
 
   -- what the test of a rule has to know of the order: nothing but for operands
   abbrev pub IsOrderFor : Rule → Ptr Operation → WalkOrder → Type 0

@@ -5,7 +5,7 @@ ghost use Rattle.ir_program.specs.Program.{operation_at, IsLiveValue};
 ghost use Rattle.ir_program.specs.Rows.{operands_at};
 ghost use Rattle.ir_program.specs.declared.handles.DefiningEntity.TheVariants.{Op as ByOp};
 ghost use Rattle.ir_program.specs.declared.handles.IRNode.TheVariants.{Operation as OperationNode};
-ghost use Rattle.kit_checks.specs.Naming.{AreInWalkOrder, IsOrderFor, IsOrderOf, IsSpotOfOperation, MayName, MayNameFrom};
+ghost use Rattle.kit_checks.specs.Naming.{IsOrderAt, IsOrderFor, IsSpotOfOperation, MayName, MayNameFrom, OrdersBefore};
 ghost use Rattle.kit_checks.specs.Reading.{OfSite};
 ghost use Rattle.kit_checks.specs.Rules.{OperandsAreVisible};
 ghost use Rattle.kit_checks.specs.Words.{Every};
@@ -71,7 +71,7 @@ fn may_name_results<O, B>(
 ) -> bool
     requires definer { IsSome (operation_at program.now definer) }
     requires spot { IsSpotOfOperation program.now op spot }
-    requires order { IsOrderOf program.now spot.block order.now }
+    requires order { OrdersBefore program.now spot.block op order.now }
     ensures { IsTrue result ↔ MayNameFrom program.now op spot (ByOp definer) }
 {
     match program.parent_block(definer) {
@@ -95,7 +95,7 @@ fn may_name<O, B>(
 ) -> bool
     requires value { IsLiveValue program.now value }
     requires spot { IsSpotOfOperation program.now op spot }
-    requires order { IsOrderOf program.now spot.block order.now }
+    requires order { OrdersBefore program.now spot.block op order.now }
     ensures { IsTrue result ↔ MayName program.now op spot value }
 {
     program.know_values();
@@ -113,7 +113,7 @@ fn names_visible<O, B>(
     spot: Spot,
 ) -> bool
     requires spot { IsSpotOfOperation program.now op spot }
-    requires order { IsOrderOf program.now spot.block order.now }
+    requires order { OrdersBefore program.now spot.block op order.now }
     ensures { IsTrue result ↔ Every (MayName program.now op spot) (operands_at program.now op) }
 {
     for index in 0..program.operand_count(op) {
@@ -134,7 +134,7 @@ pub(crate) fn operands_are_visible(
 ) -> bool
     requires inside { StandsInside ctx.now.program (OperationNode root) (OperationNode op) }
     requires op { IsSome (operation_at ctx.now.program op) }
-    requires order { AreInWalkOrder ctx.now.program root order.now }
+    requires order { IsOrderAt ctx.now.program root op order.now }
     ensures { OfSite ctx.now.program root op (λ s. IsTrue result ↔ OperandsAreVisible (world_of ctx.now) s) }
 {
     let program = ctx.program();

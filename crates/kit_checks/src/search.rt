@@ -3,7 +3,9 @@ ghost use Rattle.std.specs.Prelude.{◌≡◌, ◌↔◌, IfOk, IsSome, IsTrue};
 ghost use Rattle.ir_program.specs.Lists.{IsLiveNode, StandsInside};
 ghost use Rattle.ir_program.specs.Program.{operation_at};
 ghost use Rattle.ir_program.specs.declared.handles.IRNode.TheVariants.{Operation as OperationNode};
-ghost use Rattle.kit_checks.specs.Naming.{AreInWalkOrder, IsOrderFor};
+ghost use Rattle.ir_program.specs.declared.handles.Operation.{Operation};
+ghost use Rattle.ir_program.specs.declared.handles.Ptr.{Ptr};
+ghost use Rattle.kit_checks.specs.Naming.{IsOrderAt, IsOrderFor};
 ghost use Rattle.kit_checks.specs.Searching.{IsBrokenAt, IsFirstBreakIn, IsSearched, IsTested, KeepsLocalRules};
 ghost use Rattle.kit_checks.specs.Searching.{TellsAll, TellsAllAt};
 ghost use Rattle.kit_checks.specs.World.{world_of};
@@ -13,7 +15,7 @@ use crate::edges::edges_fit;
 use crate::format::fits_format;
 use crate::naming::{operands_are_visible, order_for};
 use crate::operands::types_agree;
-use crate::places::place_of;
+use crate::places::{next, place_of};
 use crate::rule::{Rule, RuleFault};
 use crate::signatures::{function_has_type, returns_fit};
 use crate::tests::{
@@ -129,7 +131,7 @@ fn keeps_all(
     order: &WalkOrder,
     op: Ptr<Operation>,
 ) -> bool
-    requires order { AreInWalkOrder ctx.now.program root order.now }
+    requires order { IsOrderAt ctx.now.program root op order.now }
     requires inside { StandsInside ctx.now.program (OperationNode root) (OperationNode op) }
     requires op { IsSome (operation_at ctx.now.program op) }
     ensures { TellsAll (world_of ctx.now) ctx.now.program root op result }
@@ -150,7 +152,7 @@ fn keeps_all(
 
 /// Whether an entity inside the root is no operation, or is one that keeps all local rules.
 fn keeps_all_at(ctx: &Context<Kit>, root: Ptr<Operation>, order: &WalkOrder, node: IRNode) -> bool
-    requires order { AreInWalkOrder ctx.now.program root order.now }
+    requires order { (op : Ptr Operation) → node ≡ OperationNode op → IsOrderAt ctx.now.program root op order.now }
     requires inside { StandsInside ctx.now.program (OperationNode root) node }
     requires live { IsLiveNode ctx.now.program node }
     ensures { TellsAllAt (world_of ctx.now) ctx.now.program root node result }
@@ -161,26 +163,8 @@ fn keeps_all_at(ctx: &Context<Kit>, root: Ptr<Operation>, order: &WalkOrder, nod
     }
 }
 
-/// Whether all operations inside the root keep all local rules, found with the order of operations. Each operation is
-/// tested by all rules before the next one is.
-fn keeps_all_inside(ctx: &Context<Kit>, root: Ptr<Operation>, order: &WalkOrder) -> bool
-    requires order { AreInWalkOrder ctx.now.program root order.now }
-    requires root { IsSome (operation_at ctx.now.program root) }
-    ensures { IsTrue result ↔ KeepsLocalRules (world_of ctx.now) ctx.now.program root }
-{
-    let program = ctx.program();
-    program.know_lists();
-    know_tree(program, root);
-    for node in program.nodes_inside(IRNode::Operation(root)) {
-        if !keeps_all_at(ctx, root, order, node) {
-            return false;
-        }
-    }
-    true
-}
-
 /// Whether all local rules are kept in the tree that the root stands for: those that `first_place` can be asked for.
-/// One walk tests them all, and it tells no place.
+/// One walk numbers the operations and tests each by all rules before the next one is, and it tells no place.
 ///
 /// # Errors
 /// No memory for the order of operations.
@@ -192,6 +176,18 @@ pub fn keeps_local_rules(
     requires { IsSome (operation_at ctx.now.program root) }
     ensures { IfOk result (λ kept. IsTrue kept ↔ KeepsLocalRules (world_of ctx.now) ctx.now.program root) }
 {
-    let order = order_for(alloc, ctx.program(), root, Rule::OperandsAreVisible)?;
-    Ok(keeps_all_inside(ctx, root, &order))
+    let program = ctx.program();
+    program.know_lists();
+    know_tree(program, root);
+    let mut order = WalkOrder::new(alloc);
+    let mut number = 0;
+    for node in program.nodes_inside(IRNode::Operation(root)) {
+        // What has a number by now comes before this entity.
+        number = next(number)?;
+        order.number_entity(node, number)?;
+        if !keeps_all_at(ctx, root, &order, node) {
+            return Ok(false);
+        }
+    }
+    Ok(true)
 }

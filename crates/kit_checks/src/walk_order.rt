@@ -3,7 +3,7 @@ ghost use Rattle.std.specs.Prelude.{◌≡◌, ◌↔◌, ◌<◌, IfOk, IsSome,
 ghost use Rattle.ir_program.specs.Program.{operation_at};
 ghost use Rattle.ir_program.specs.declared.handles.Operation.{Operation};
 ghost use Rattle.ir_program.specs.declared.handles.Ptr.{Ptr};
-ghost use Rattle.kit_checks.specs.Naming.{AreInWalkOrder, GivesNumber, KeepsNumbers, NumbersEntity, number_in};
+ghost use Rattle.kit_checks.specs.Naming.{AreInWalkOrder, GivesNumber, IsNumberedBelow, KeepsNumbers, NumbersEntity, number_in};
 
 use crate::places::next;
 use ir_program::{IRNode, Operation, Program, Ptr};
@@ -48,7 +48,7 @@ impl WalkOrder {
     }
 
     /// Gives an entity this number, if it is an operation.
-    fn number_entity(&mut self, node: IRNode, number: usize) -> Result<(), AllocError>
+    pub(crate) fn number_entity(&mut self, node: IRNode, number: usize) -> Result<(), AllocError>
         ensures { OnOk result (NumbersEntity self.old self.new node number) }
     {
         match node {
@@ -88,10 +88,11 @@ impl WalkOrder {
         }
     }
 
-    /// Whether an operation has a smaller number than another one.
+    /// Whether an operation has a number, and a smaller one than another operation.
     pub(crate) fn is_earlier(&self, op: Ptr<Operation>, other: Ptr<Operation>) -> bool
-        ensures { IsTrue result ↔ (number_in self.now op < number_in self.now other) }
+        ensures { IsTrue result ↔ IsNumberedBelow self.now op other }
     {
-        self.number_of(op) < self.number_of(other)
+        let number = self.number_of(op);
+        0 < number && number < self.number_of(other)
     }
 }

@@ -68,7 +68,9 @@ impl<D: TextDialect> Assembler<D> {
         }
     }
 
-    /// Does what the event with a number asks for.
+    /// Does what the event with a number asks for. Half of all events ask for one addition, so this stands in the loop over
+    /// them.
+    #[inline(always)]
     fn take(
         &mut self,
         ctx: &mut Context<D>,

@@ -9,10 +9,10 @@ pub returns-then-eq : goal.returns-then-eq
 returns-then-eq g c =
     let same = same_yes c.in-Some.home c.args.spot.block c.eq.result c.eq.ensures c.if-eq.true in
     let stands : StandsInBlock c.args.program.now c.args.definer c.args.spot.block = subst (StandsInBlock c.args.program.now c.args.definer) same c.in-Some.ensures.parent in (
-      λ yes. inl (order_tells c.args.program.now c.args.spot.block c.args.order.now c.requires.order
-          c.args.definer c.args.op stands c.requires.spot.in_block (c.is_earlier.ensures.0 yes)),
+      λ yes. inl (order_tells c.args.program.now c.args.spot.block c.args.order.now c.args.definer c.args.op
+          c.requires.order stands c.requires.spot.in_block (c.is_earlier.ensures.0 yes)),
       λ h. c.is_earlier.ensures.1 (⊎_elim
-          (λ e. c.requires.order c.args.definer c.args.op e)
+          (λ e. c.requires.order.before c.args.definer e)
           (λ r. let q : Some c.in-Some.home ≡ Some c.args.spot.entry = sym c.in-Some.is ∙ c.parent_block.ensures.only c.args.spot.entry r.1 in let e : c.in-Some.home ≡ c.args.spot.entry = cc in absurd (r.0 (sym same ∙ e)))
           h),
     )

@@ -6,7 +6,7 @@ use Rattle.ir_program.specs.Rows.{operands_at}
 use Rattle.ir_program.specs.declared.handles.Value.{Value}
 use Rattle.opt_inside.proofs.Around.{HasLists}
 use Rattle.kit_checks.specs.Located.{IsSiteOf}
-use Rattle.kit_checks.specs.Naming.{IsOrderOf, IsSpotOfOperation, MayName}
+use Rattle.kit_checks.specs.Naming.{IsSpotOfOperation, MayName, OrdersBefore}
 use Rattle.kit_checks.specs.Words.{Every}
 use Rattle.kit_checks.specs.World.{world_of}
 use Rattle.kit_checks.proofs.Named.{HasValues, block_inside, none_seen, operands_seen}
@@ -26,7 +26,7 @@ names_visible-requires-clause-order c =
       block_apart = c.know_lists.ensures.block_apart;
     } in
     let in_block : StandsInBlock c.args.ctx.now.program c.args.op c.in-Some.spot.block = subst (λ x. StandsInBlock x c.args.op c.in-Some.spot.block) p c.in-Some.ensures.spot.1.in_block in
-    subst (λ x. IsOrderOf x c.in-Some.spot.block c.args.order.now) (sym p)
+    subst (λ x. OrdersBefore x c.in-Some.spot.block c.args.op c.args.order.now) (sym p)
     (c.requires.order c.in-Some.spot.block (block_inside c.args.ctx.now.program (subst HasLists p lists) c.args.root c.args.op c.in-Some.spot.block c.in-Some.ensures.spot.0 c.requires.inside in_block))
 
 pub returns-in-Some : goal.returns-in-Some

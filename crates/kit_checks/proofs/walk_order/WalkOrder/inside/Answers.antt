@@ -5,7 +5,7 @@ use Rattle.kit_checks.proofs.walk_order.WalkOrder.inside.Goals as goal
 pub loop-node-init : goal.loop-node-init
 loop-node-init g c =
     numbering_begins c.args.program.now c.args.root c.new-order.result c.into_iter-node-iterator.result
-    (c.into_iter-node-iterator.ensures.into_iter_gives ∙ c.nodes_inside-node-items.ensures.list)
+    (c.into_iter-node-iterator.ensures.into_iter_gives ∙ c.nodes_inside-node-items.ensures.list) c.new-order.ensures
 
 pub loop-node-preserved : goal.loop-node-preserved
 loop-node-preserved g c =

@@ -1,7 +1,0 @@
-use Rattle.kit_checks.specs.World.{world_of}
-use Rattle.kit_checks.proofs.LocalRules.{AreKeptUpTo}
-use Rattle.kit_checks.proofs.search.keeps_all_inside.Given as goal
-
--- those that were seen keep each rule
-abbrev pub invariant-loop-node : goal.invariant-loop-node
-invariant-loop-node l = AreKeptUpTo (world_of l.ctx) l.ctx.program l.root l.node-iterator
