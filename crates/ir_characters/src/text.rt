@@ -86,6 +86,7 @@ impl<'a> PartialEq for Text<'a> {
 
     ghost laws = { on_per codes_of (partial_equiv_from_equiv nat_list_eq_equiv) };
 
+    // Names are compared at each token that may be one, so this stands where it is asked for.
     #[inline(always)]
     fn eq(&self, other: &Self) -> bool {
         match (*self, *other) {

@@ -238,9 +238,9 @@ classifying_bad words cs first at known known' found found' starts starts' kinds
 
 -- what has ended is known by what it was before
 pub classified_ended : {E : Type 0} (words : List (List ℕ)) (cs : List ℕ) (r : Result Classified E) (starts : List ℕ)
-    (kinds names : Vec ℕ Global) → IfOk r (λ c. c.starts.items ≡ starts) → IfOk r (λ c. c.kinds ≡ kinds)
+    (kinds : Vec ℕ Global) (names : List ℕ) → IfOk r (λ c. c.starts ≡ starts) → IfOk r (λ c. c.kinds ≡ kinds)
     → IfOk r (λ c. c.names ≡ names)
-    → (ts : List Token) × AreClassified words cs ts starts kinds.items names.items
-    → IfOk r (λ c. (ts : List Token) × AreClassified words cs ts c.starts.items c.kinds.items c.names.items)
+    → (ts : List Token) × AreClassified words cs ts starts kinds.items names
+    → IfOk r (λ c. (ts : List Token) × AreClassified words cs ts c.starts c.kinds.items c.names)
 classified_ended words cs (Ok c) starts kinds names is_starts is_kinds is_names h = rw (is_starts, is_kinds, is_names) h
 classified_ended words cs (Err e) starts kinds names is_starts is_kinds is_names h = tt

@@ -12,6 +12,7 @@ ghost use Rattle.ir_formats.specs.Words.{spellings, text_of, is_width, are_digit
 use crate::rules::{SHAPES, Shape};
 use indexmap::IndexSet;
 use ir_characters::{Characters, Text};
+use ir_tokens::numbers::Numbers;
 use ir_tokens::scan::is_digit;
 use ir_tokens::tokens::{Token, TokenKind, token_at};
 use std::alloc::{AllocError, Global};
@@ -20,30 +21,30 @@ use std::alloc::{AllocError, Global};
 #[derive(Drop)]
 pub struct Classified {
     /// Where each token begins, and behind these where the text of the last one ends, in characters from 0.
-    pub starts: Vec<usize>,
+    pub starts: Numbers,
     /// The kind of each token, as the grammar's signs take it.
     pub kinds: Vec<u32>,
     /// A number for each token that may be a word or a name: two have the same where they are spelled alike.
-    pub names: Vec<usize>,
+    pub names: Numbers,
 }
 
 impl Classified {
     /// No tokens, with room for so many.
     fn with_capacity(alloc: Global, tokens: usize) -> Result<Classified, AllocError>
-        ensures { IfOk result (λ c. (c.starts.items ≡ []) × (c.kinds.items ≡ []) × (c.names.items ≡ [])) }
+        ensures { IfOk result (λ c. (c.starts ≡ []) × (c.kinds.items ≡ []) × (c.names ≡ [])) }
     {
         Ok(Classified {
-            starts: Vec::with_capacity(alloc, tokens)?,
+            starts: Numbers::with_capacity(alloc, tokens)?,
             kinds: Vec::with_capacity(alloc, tokens)?,
-            names: Vec::with_capacity(alloc, tokens)?,
+            names: Numbers::with_capacity(alloc, tokens)?,
         })
     }
 
     /// Puts a token behind the others.
     fn add(&mut self, start: usize, kind: u32, name: usize) -> Result<(), AllocError>
-        ensures starts { OnOk result (self.new.starts.items ≡ self.old.starts.items ++ start ∷ []) }
+        ensures starts { OnOk result (self.new.starts ≡ self.old.starts ++ start ∷ []) }
         ensures kinds { OnOk result (self.new.kinds.items ≡ self.old.kinds.items ++ kind ∷ []) }
-        ensures names { OnOk result (self.new.names.items ≡ self.old.names.items ++ name ∷ []) }
+        ensures names { OnOk result (self.new.names ≡ self.old.names ++ name ∷ []) }
     {
         self.starts.push(start)?;
         self.kinds.push(kind)?;
@@ -53,7 +54,7 @@ impl Classified {
 
     /// The same tokens, of which the last one's text ends here.
     fn ended(mut self, end: usize) -> Result<Classified, AllocError>
-        ensures starts { IfOk result (λ c. c.starts.items ≡ self.starts.items ++ end ∷ []) }
+        ensures starts { IfOk result (λ c. c.starts ≡ self.starts ++ end ∷ []) }
         ensures kinds { IfOk result (λ c. c.kinds ≡ self.kinds) }
         ensures names { IfOk result (λ c. c.names ≡ self.names) }
     {
@@ -95,7 +96,7 @@ fn are_digits(text: Text, from: usize) -> bool
 }
 
 /// Whether these characters are `i`, `si` or `ui` with digits behind it.
-#[inline]
+#[inline(always)]
 fn is_width(name: Text) -> bool
     ensures { result ≡ is_width (codes_of name.entry) }
 {
@@ -108,7 +109,7 @@ fn is_width(name: Text) -> bool
 }
 
 /// The kind of a token that is no word of the grammar.
-#[inline]
+#[inline(always)]
 fn shape_of(kind: TokenKind, text: Text) -> u32
     ensures { result ≡ shape_kind kind (codes_of text.entry) }
 {
@@ -200,8 +201,11 @@ fn code_before_end(text: Text, back: usize) -> usize
 fn guess_place(text: Text) -> usize {
     let code = match text {
         // Most names have four characters or more, and are met so often that they get the short way.
-        Text::Bytes([.., third, second, first, last]) => {
-            1000 * *third as usize + 100 * *second as usize + 10 * *first as usize + *last as usize
+        Text::Bytes([.., thousands, hundreds, tens, ones]) => {
+            1000 * *thousands as usize
+                + 100 * *hundreds as usize
+                + 10 * *tens as usize
+                + *ones as usize
         }
         _ => 1000 * code_before_end(text, 4)
             + 100 * code_before_end(text, 3)
@@ -439,11 +443,11 @@ impl<'a> Spellings<'a> {
     ) -> Result<usize, AllocError>
         requires words { NumbersWords (spellings words.now) (known_texts self.old) self.old.words.items }
         requires signs { AreSigns (spellings words.now) (known_texts self.old) self.old.signs.items }
-        requires starts { classified.old.starts.items ≡ [] }
+        requires starts { classified.old.starts ≡ [] }
         requires kinds { classified.old.kinds.items ≡ [] }
-        requires names { classified.old.names.items ≡ [] }
+        requires names { classified.old.names ≡ [] }
         ensures { IfOk result (λ end. (ts : List Token) × AreClassified (spellings words.now) (codes_of chars.entry) ts
-            (classified.new.starts.items ++ end ∷ []) classified.new.kinds.items classified.new.names.items) }
+            (classified.new.starts ++ end ∷ []) classified.new.kinds.items classified.new.names) }
     {
         let mut at = 0;
         'reading: while at < chars.len() {
@@ -471,11 +475,11 @@ fn add_tokens(
     tokens: usize,
     classified: &mut Classified,
 ) -> Result<usize, AllocError>
-    requires starts { classified.old.starts.items ≡ [] }
+    requires starts { classified.old.starts ≡ [] }
     requires kinds { classified.old.kinds.items ≡ [] }
-    requires names { classified.old.names.items ≡ [] }
+    requires names { classified.old.names ≡ [] }
     ensures { IfOk result (λ end. (ts : List Token) × AreClassified (spellings words.now) (codes_of chars.entry) ts
-        (classified.new.starts.items ++ end ∷ []) classified.new.kinds.items classified.new.names.items) }
+        (classified.new.starts ++ end ∷ []) classified.new.kinds.items classified.new.names) }
 {
     let mut spellings = Spellings::new(alloc, words, tokens)?;
     spellings.classify(words, chars, classified)
@@ -488,7 +492,7 @@ fn add_tokens(
 /// one step.
 pub fn classify(alloc: Global, words: &[Characters], chars: Text) -> Result<Classified, AllocError>
     ensures { IfOk result (λ c. (ts : List Token)
-        × AreClassified (spellings words.now) (codes_of chars.entry) ts c.starts.items c.kinds.items c.names.items) }
+        × AreClassified (spellings words.now) (codes_of chars.entry) ts c.starts c.kinds.items c.names) }
 {
     // A token takes some six characters in most texts, with the white space before it, and seldom less than 16 / 3.
     let tokens = chars.len() / 16 * 3;

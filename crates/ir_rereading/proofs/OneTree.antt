@@ -52,7 +52,7 @@ module _ (l : Language) (leads : ordered.PartPositions) (ok : is_ordered leads (
 
   -- the number of its definition is the same for this token
   abbrev IsSame : ℕ → Type 0
-  IsSame k = slice_index r.definitions.items k ≡ slice_index q.definitions.items k
+  IsSame k = slice_index r.definitions k ≡ slice_index q.definitions k
 
   definition_same : (s : Site) → In s (definitions l.isolated es) → IsSame s.token
   definition_same s i =
@@ -93,7 +93,7 @@ record IsSaidBy (l : Language) (cs : List ℕ) (tree : Entity ℕ) (ts : List To
   grown : IsForestOf es forest
   within : operations_in l.values (token_text cs ts) [] forest ≡ an_entity body no_entity
   resolved : IsResolved l.isolated names es resolution
-  same : tree ≡ renamed (slice_index resolution.definitions.items) body
+  same : tree ≡ renamed (slice_index resolution.definitions) body
 
 module _ (l : Language) (leads : ordered.PartPositions) (ok : is_ordered leads (rules_of l.formats) ≡ true) (cs : List ℕ)
     (t u : Entity ℕ) (ts : List Token) where
@@ -115,7 +115,7 @@ module _ (l : Language) (leads : ordered.PartPositions) (ok : is_ordered leads (
         cc
 
     abbrev Same : ℕ → Type 0
-    Same k = slice_index a.resolution.definitions.items k ≡ slice_index b.resolution.definitions.items k
+    Same k = slice_index a.resolution.definitions k ≡ slice_index b.resolution.definitions k
 
     defined_same : (k : ℕ) → In k (definitions_of a.body) → Same k
     defined_same k i =
@@ -135,9 +135,9 @@ module _ (l : Language) (leads : ordered.PartPositions) (ok : is_ordered leads (
     said_same : t ≡ u
     said_same =
         a.same
-        ∙ (renamed_same (slice_index a.resolution.definitions.items) (slice_index b.resolution.definitions.items) a.body
+        ∙ (renamed_same (slice_index a.resolution.definitions) (slice_index b.resolution.definitions) a.body
         defined_same operand_same
-        ∙ (ap (renamed (slice_index b.resolution.definitions.items)) one_body ∙ sym b.same))
+        ∙ (ap (renamed (slice_index b.resolution.definitions)) one_body ∙ sym b.same))
 
   -- ---- two readings
 

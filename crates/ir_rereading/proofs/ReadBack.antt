@@ -225,7 +225,7 @@ module _ (l : Language) (lead : ordered.PartPositions) (ok : is_ordered lead (ru
   -- the text says a tree that is the same but for its labels
   pub read_again : length cs < 2 ^ 63 → (again : Entity ℕ) × Says l cs again × IsSameModule again t
   read_again few = (
-    renamed (slice_index found.0.definitions.items) tree,
+    renamed (slice_index found.0.definitions) tree,
     (ts, numbers, stops.Text, n, es, forest, tree, found.0, reading, none, built.2, built.3, ((λ f h. none f (inr (inr (inr (inr h))))), found.1), refl),
     tree_again l.isolated l.values numbers (definitions l.isolated es) (mentions l.isolated es) (closings l.isolated es) found.0 text ν tree t (ap unlabelled built.4 ∙ same)
         closed.operation numbered closed.scoped distinct_read (definition_tokens l.isolated l.values text es forest tree built.2 built.3 leads no_names)
@@ -237,8 +237,5 @@ module _ (l : Language) (lead : ordered.PartPositions) (ok : is_ordered lead (ru
       apart : SitesAreApart (definitions l.isolated es) (mentions l.isolated es)
       apart = names_apart l cs ts numbers stops.Text n es reading lead ok
 
-      bound : length numbers < 2 ^ 63
-      bound = let a = length-map ts (name_number (with_words [] (spelled_texts cs ts)) 0 cs) in let b = tokens_few cs 0 ts (omega arith) lexed.1 in omega arith
-
       found : (r : Resolution) × Resolves numbers (definitions l.isolated es) (mentions l.isolated es) (closings l.isolated es) r
-      found = resolution numbers (definitions l.isolated es) (mentions l.isolated es) means (closings l.isolated es) no_again bound
+      found = resolution numbers (definitions l.isolated es) (mentions l.isolated es) means (closings l.isolated es) no_again

@@ -53,6 +53,6 @@ module _ (l : Language) (lead : ordered.PartPositions) (ok : is_ordered lead (ru
         shallow = says_shallow l flat cs tree says;
         scoped = subst (λ u. IsScopedRoot l.isolated u) (sym same) scopes.0;
         numbered = subst IsNumbered (sym same) scopes.1;
-        labelled = subst (λ (u : Entity ℕ). IsLabelled u) (sym same) (renamed_labelled (slice_index r.definitions.items) t labels);
-        bare = subst (λ (u : Entity ℕ). IsBareTree u) (sym same) (bare_renamed (slice_index r.definitions.items) t (read_bare l.values (token_text cs ts) keeps forest t built));
+        labelled = subst (λ (u : Entity ℕ). IsLabelled u) (sym same) (renamed_labelled (slice_index r.definitions) t labels);
+        bare = subst (λ (u : Entity ℕ). IsBareTree u) (sym same) (bare_renamed (slice_index r.definitions) t (read_bare l.values (token_text cs ts) keeps forest t built));
       }

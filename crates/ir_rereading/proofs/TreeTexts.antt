@@ -72,7 +72,7 @@ module _ (l : Language) (cs : List ℕ) (ts : List Token) (names : List ℕ) (st
       -- The tree of a text without fault, in which the number of its definition names a value, is scoped, and its definitions have the numbers from 0 on.
       pub text_scoped : IsNamed (HasFault l cs ts names stop n es) None → (forest : Trees ActionSpan) (tree : Entity ℕ) (r : Resolution) → IsForestOf es forest
           → operations_in l.values (token_text cs ts) [] forest ≡ an_entity tree no_entity → IsResolved l.isolated names es r
-          → IsScopedRoot l.isolated (renamed (slice_index r.definitions.items) tree) × IsNumbered (renamed (slice_index r.definitions.items) tree)
+          → IsScopedRoot l.isolated (renamed (slice_index r.definitions) tree) × IsNumbered (renamed (slice_index r.definitions) tree)
       text_scoped none forest tree r read says resolved =
           let led = read_whole l leads ok cs ts names n es stop reading none in
           let named : (f : Fault) → HasNamesFault l.values (token_text cs ts) es f → ⊥ = λ f h. none f (inr (inr (inl h))) in (

@@ -88,7 +88,7 @@ abbrev pub Says : Language → List ℕ → Entity ℕ → Type 0
 Says l cs tree = (ts : List Token) × (names : List ℕ) × (stop : Stop) × (n : ℕ) × (es : List Event) × (forest : Trees ActionSpan) × (t : Entity ℕ) × (r : Resolution)
     × IsReading l cs ts names stop n es × IsNamed (HasFault l cs ts names stop n es) None
     × IsForestOf es forest × (operations_in l.values (token_text cs ts) [] forest ≡ an_entity t no_entity)
-    × IsResolved l.isolated names es r × (tree ≡ renamed (slice_index r.definitions.items) t)
+    × IsResolved l.isolated names es r × (tree ≡ renamed (slice_index r.definitions) t)
 
 -- so many definitions of values stand in what is read of the text
 abbrev pub HasDefinitions : Language → List ℕ → ℕ → Type 0

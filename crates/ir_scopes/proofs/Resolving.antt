@@ -54,13 +54,13 @@ module _ (isolated : ℕ → Bool) (names : List ℕ) (es : List Event) (s : Sit
 
   module _ (none : IsNamed (HasScopeFault isolated names es) None) where
     resolves_here : (r : Resolution) → r.count ≡ length s.definitions.items
-        → (SitesAreApart s.definitions.items s.mentions.items → (j : ℕ) (d : Site) → slice_get s.definitions.items j ≡ Some d → d.token < length names → slice_index r.definitions.items d.token ≡ j)
-        → (SitesAreApart s.definitions.items s.mentions.items → MeanNoted names s.definitions.items s.mentions.items r.definitions.items)
+        → (SitesAreApart s.definitions.items s.mentions.items → (j : ℕ) (d : Site) → slice_get s.definitions.items j ≡ Some d → d.token < length names → slice_index r.definitions d.token ≡ j)
+        → (SitesAreApart s.definitions.items s.mentions.items → MeanNoted names s.definitions.items s.mentions.items r.definitions)
         → Resolves names s.definitions.items s.mentions.items s.closings.items r
     resolves_here r count defined mentioned = record {
       count = count;
       defined = defined;
-      mentioned = λ apart i j m at means within. one_number names s.definitions.items no_again m.scope (name_of names m.token) (slice_index r.definitions.items m.token) j (mentioned apart i j m at means within) means;
+      mentioned = λ apart i j m at means within. one_number names s.definitions.items no_again m.scope (name_of names m.token) (slice_index r.definitions m.token) j (mentioned apart i j m at means within) means;
       resolved = is_meant names s.definitions.items s.mentions.items s.closings.items no_lacking;
     }
       where
@@ -74,8 +74,8 @@ module _ (isolated : ℕ → Bool) (names : List ℕ) (es : List Event) (s : Sit
             (subst (λ ds. IsNamed (IsUnresolvedName names ds (mentions isolated es) (closings isolated es)) None) (sym are.definitions) (λ f h. none f (inr (inr h)))))
 
     pub resolves : (r : Resolution) → r.count ≡ length s.definitions.items
-        → (SitesAreApart s.definitions.items s.mentions.items → (j : ℕ) (d : Site) → slice_get s.definitions.items j ≡ Some d → d.token < length names → slice_index r.definitions.items d.token ≡ j)
-        → (SitesAreApart s.definitions.items s.mentions.items → MeanNoted names s.definitions.items s.mentions.items r.definitions.items)
+        → (SitesAreApart s.definitions.items s.mentions.items → (j : ℕ) (d : Site) → slice_get s.definitions.items j ≡ Some d → d.token < length names → slice_index r.definitions d.token ≡ j)
+        → (SitesAreApart s.definitions.items s.mentions.items → MeanNoted names s.definitions.items s.mentions.items r.definitions)
         → Resolves names (definitions isolated es) (mentions isolated es) (closings isolated es) r
     resolves r count defined mentioned =
         subst (λ cs. Resolves names (definitions isolated es) (mentions isolated es) cs r) are.closings

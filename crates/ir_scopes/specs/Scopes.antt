@@ -257,8 +257,8 @@ pub record SitesAreApart (ds ms : List Site) : Type 0 where
 -- order of the text; at the token of each, and of each mention that means it, stands its number.
 pub record Resolves (names : List ℕ) (ds ms : List Site) (cs : List Closing) (r : Resolution) : Type 0 where
   pub count : r.count ≡ length ds
-  pub defined : SitesAreApart ds ms → (j : ℕ) (s : Site) → slice_get ds j ≡ Some s → s.token < length names → slice_index r.definitions.items s.token ≡ j
-  pub mentioned : SitesAreApart ds ms → (i j : ℕ) (m : Site) → slice_get ms i ≡ Some m → Means names ds m j → m.token < length names → slice_index r.definitions.items m.token ≡ j
+  pub defined : SitesAreApart ds ms → (j : ℕ) (s : Site) → slice_get ds j ≡ Some s → s.token < length names → slice_index r.definitions s.token ≡ j
+  pub mentioned : SitesAreApart ds ms → (i j : ℕ) (m : Site) → slice_get ms i ≡ Some m → Means names ds m j → m.token < length names → slice_index r.definitions m.token ≡ j
   pub resolved : (i k : ℕ) (m : Site) (c : Closing) → slice_get ms i ≡ Some m → slice_get cs k ≡ Some c → c.scope ≡ m.scope → (j : ℕ) × Means names ds m j
 
 -- what reading did has no fault of names, and its names are looked up

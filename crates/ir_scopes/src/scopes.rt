@@ -12,6 +12,7 @@ ghost use Rattle.ir_scopes.specs.Orders.{AreNumberedSites, IsScopeOrder, token_a
 
 use crate::sites::{Closing, Site, Sites, sites_of};
 use ir_grammar::grammar::Event;
+use ir_tokens::Numbers;
 use ir_tokens::faults::{Fault, FaultKind, first_of};
 use std::alloc::{AllocError, AllocFailed, Global};
 use std::collections::BTreeSet;
@@ -20,7 +21,7 @@ use std::collections::BTreeSet;
 #[derive(Drop)]
 pub struct Resolution {
     /// For each token that names a value, the number of its definition, in the order of the text from 0 on.
-    pub definitions: Vec<usize>,
+    pub definitions: Numbers,
     /// How many definitions there are.
     pub count: usize,
     pub counts: Counts,
@@ -89,13 +90,10 @@ struct Walk {
 }
 
 /// The number of the token's name.
-fn name_of(names: &[usize], token: usize) -> usize
+fn name_of(names: &Numbers, token: usize) -> usize
     ensures { result ≡ name_of names.now token }
 {
-    match names.get(token) {
-        Some(name) => *name,
-        None => 0,
-    }
+    names.at(token)
 }
 
 fn fault_again(token: usize) -> Fault
@@ -140,7 +138,7 @@ fn scope_order(alloc: Global, sites: &[Site]) -> Result<Vec<(usize, usize)>, All
 }
 
 /// The greatest of the numbers of names at the sites.
-fn greatest_name(names: &[usize], sites: &[Site]) -> usize
+fn greatest_name(names: &Numbers, sites: &[Site]) -> usize
     ensures { (j : ℕ) (s : Site) → slice_get sites.now j ≡ Some s → name_of names.now s.token ≤ result }
 {
     let mut greatest = 0;
@@ -151,7 +149,7 @@ fn greatest_name(names: &[usize], sites: &[Site]) -> usize
 }
 
 /// A table with a place for the name of each site, which says that no name was passed.
-fn no_names(alloc: Global, names: &[usize], sites: &[Site]) -> Result<Vec<usize>, AllocError>
+fn no_names(alloc: Global, names: &Numbers, sites: &[Site]) -> Result<Vec<usize>, AllocError>
     ensures fits { IfOk result (λ v. HasPlaces names.now sites.now v.items) }
     ensures none { IfOk result (λ v. (name : ℕ) → name < length v.items → slice_index v.items name ≡ NOWHERE) }
 {
@@ -173,7 +171,7 @@ fn token_at(sites: &[Site], number: usize) -> usize
 
 impl Walk {
     /// A walk over these sites, of which none was passed.
-    fn new(alloc: Global, names: &[usize], sites: &[Site]) -> Result<Walk, AllocError>
+    fn new(alloc: Global, names: &Numbers, sites: &[Site]) -> Result<Walk, AllocError>
         ensures walk { IfOk result (IsScopeWalk names.now sites.now) }
         ensures passed { IfOk result (λ w. w.passed ≡ 0) }
     {
@@ -229,7 +227,7 @@ impl Walk {
     }
 
     /// Passes the next site, if there is one in the scopes up to this one, and says whether it did.
-    fn step(&mut self, names: &[usize], sites: &[Site], last: usize) -> bool
+    fn step(&mut self, names: &Numbers, sites: &[Site], last: usize) -> bool
         ensures walk { (all : List ℕ) → AreNamedAlike all names.now sites.now → IsScopeWalk all sites.now self.old
             → IsScopeWalk all sites.now self.new }
         ensures order { self.new.order.items ≡ self.old.order.items }
@@ -251,7 +249,7 @@ impl Walk {
     }
 
     /// Passes all sites of the scopes up to this one.
-    fn pass_through(&mut self, names: &[usize], sites: &[Site], last: usize)
+    fn pass_through(&mut self, names: &Numbers, sites: &[Site], last: usize)
         ensures walk { (all : List ℕ) → AreNamedAlike all names.now sites.now → IsScopeWalk all sites.now self.old
             → IsScopeWalk all sites.now self.new }
         ensures order { self.new.order.items ≡ self.old.order.items }
@@ -264,7 +262,7 @@ impl Walk {
 }
 
 /// The first fault that a name stands at two of the sites in one scope.
-fn first_again(alloc: Global, names: &[usize], sites: &[Site]) -> Result<Option<Fault>, AllocError>
+fn first_again(alloc: Global, names: &Numbers, sites: &[Site]) -> Result<Option<Fault>, AllocError>
     ensures { IfOk result (IsNamed (IsAgain names.now sites.now)) }
 {
     let mut walk = Walk::new(alloc, names, sites)?;
@@ -295,15 +293,18 @@ fn note(places: &mut [usize], token: usize, number: usize)
 }
 
 /// Writes the number of each definition to the place of its token.
-fn note_definitions(places: &mut [usize], definitions: &[Site])
-    ensures noted { HaveDistinctTokens definitions.now → (j : ℕ) (s : Site) → slice_get definitions.now j ≡ Some s
-        → s.token < length places.old → slice_index places.new s.token ≡ j }
-    ensures kept { (k : ℕ) → ((j : ℕ) (s : Site) → slice_get definitions.now j ≡ Some s → s.token ≡ k → ⊥)
-        → slice_index places.new k ≡ slice_index places.old k }
+fn note_definitions(places: &mut Numbers, definitions: &[Site]) -> Result<(), AllocError>
+    ensures noted { OnOk result (HaveDistinctTokens definitions.now → (j : ℕ) (s : Site)
+        → slice_get definitions.now j ≡ Some s → s.token < length places.old → slice_index places.new s.token ≡ j) }
+    ensures many { OnOk result (length places.new ≡ length places.old) }
+    ensures kept { OnOk result ((k : ℕ)
+        → ((j : ℕ) (s : Site) → slice_get definitions.now j ≡ Some s → s.token ≡ k → ⊥)
+        → slice_index places.new k ≡ slice_index places.old k) }
 {
     for (number, site) in definitions.iter().enumerate() {
-        note(places, site.token, number);
+        places.set(site.token, number)?;
     }
+    Ok(())
 }
 
 /// Writes the number of the definition that each mention means to the place of its token, where its name stands. Out
@@ -313,7 +314,7 @@ fn note_definitions(places: &mut [usize], definitions: &[Site])
 /// up.
 fn note_mentions(
     alloc: Global,
-    places: &mut [usize],
+    places: &mut Numbers,
     definitions: &[Site],
     mentions: &[Site],
     walk: &mut Walk,
@@ -333,7 +334,7 @@ fn note_mentions(
     for site in mentions {
         walk.pass_through(places, definitions, site.scope);
         match walk.number_of(site.scope, name_of(places, site.token)) {
-            Some(number) => note(places, site.token, number),
+            Some(number) => places.set(site.token, number)?,
             None => {
                 lacking.insert(site.scope)?;
             }
@@ -363,7 +364,7 @@ fn sort_by_scope(sites: &mut [Site])
 /// mentions come into the order of their scopes.
 fn look_up_mentions(
     alloc: Global,
-    places: &mut [usize],
+    places: &mut Numbers,
     definitions: &[Site],
     mentions: &mut [Site],
 ) -> Result<ValueFaults, AllocError>
@@ -389,7 +390,7 @@ fn look_up_mentions(
 /// and gives the first fault of the names. The mentions come into the order of their scopes.
 fn resolve(
     alloc: Global,
-    places: &mut [usize],
+    places: &mut Numbers,
     sites: &mut Sites,
 ) -> Result<Option<Fault>, AllocError>
     requires { SitesAreApart sites.old.definitions.items sites.old.mentions.items }
@@ -402,7 +403,7 @@ fn resolve(
 {
     let labels = first_again(alloc, places, &sites.labels)?;
     let faults = look_up_mentions(alloc, places, &sites.definitions, &mut sites.mentions)?;
-    note_definitions(places, &sites.definitions);
+    note_definitions(places, &sites.definitions)?;
     let unresolved = lacking_fault(&sites.closings, &faults.lacking);
     Ok(first_of(faults.again, first_of(labels, unresolved)))
 }
@@ -427,14 +428,14 @@ fn counts_of(sites: &Sites) -> Counts {
 /// name: larger numbers than tokens cost memory.
 pub fn look_up(
     alloc: Global,
-    names: Vec<usize>,
+    names: Numbers,
     events: &[Event],
     isolated: &[bool],
 ) -> Result<Resolution, ScopeFault>
     requires { OwnTokens false events.now }
-    ensures resolved { MatchResult result (IsResolved (is_marked isolated.now) names.items events.now)
-        (IsScopeFault (is_marked isolated.now) names.items events.now) }
-    ensures many { IfOk result (λ r. length r.definitions.items ≡ length names.items) }
+    ensures resolved { MatchResult result (IsResolved (is_marked isolated.now) names events.now)
+        (IsScopeFault (is_marked isolated.now) names events.now) }
+    ensures many { IfOk result (λ r. length r.definitions ≡ length names) }
 {
     let mut sites = sites_of(alloc, events, isolated)?;
     let mut definitions = names;

@@ -1,2 +1,3 @@
 pub mod Tokens
 pub mod Faults
+pub mod Numbers

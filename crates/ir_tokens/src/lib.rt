@@ -6,8 +6,10 @@
 #![tactic(auto)]
 
 pub mod faults;
+pub mod numbers;
 pub mod scan;
 pub mod tokens;
 
 pub use faults::{ScopeCause, TextFault};
+pub use numbers::Numbers;
 pub use tokens::{Token, TokenKind, place_after, token_at};

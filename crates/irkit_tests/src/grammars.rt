@@ -55,9 +55,9 @@ fn are_cut(
     wanted: &[(TokenKind, usize, usize)],
 ) -> Result<bool, AllocError> {
     let classified = classify(alloc, &[], chars)?;
-    let starts = wanted.iter().map(|(_, start, _)| *start);
-    let cut = classified.starts.iter().copied().take(wanted.len());
-    Ok(are_tokens(chars, wanted) && starts.eq(cut) && classified.names.len() == wanted.len())
+    let mut starts = wanted.iter().map(|(_, start, _)| *start).enumerate();
+    let begin_there = starts.all(|(token, start)| classified.starts.get(token) == Some(start));
+    Ok(are_tokens(chars, wanted) && begin_there && classified.names.len() == wanted.len())
 }
 
 /// Whether a text is cut into these tokens, also where no character is a byte.

@@ -26,7 +26,7 @@ use ir_context::Context;
 use ir_grammar::grammar::Event;
 use ir_names::Dialects;
 use ir_program::Room;
-use std::alloc::Global;
+use std::alloc::{AllocError, Global};
 use text_dialect::TextDialect;
 use text_frames::assembly::Assembly;
 use text_frames::building::{discard, know_seen};
@@ -50,22 +50,24 @@ pub struct Assembler<D: Dialects> {
 }
 
 impl<D: TextDialect> Assembler<D> {
-    fn new(alloc: Global, content: Box<Content<D>>) -> Self
-        ensures { HasReadNothing result }
+    /// Nothing is read yet. There is room for the values and the operands of so much.
+    fn with_room(alloc: Global, room: Room) -> Result<Self, AllocError>
+        ensures { IfOk result HasReadNothing }
     {
-        Assembler {
+        let content = Box::new(alloc, Content::new(alloc))?;
+        Ok(Assembler {
             alloc,
             taken: 0,
             here: Open::reusing(alloc, content, Body::Text, 0),
             around: Vec::new(alloc),
             made: Assembly {
                 root: None,
-                values: Vec::new(alloc),
-                pending: WaitingOperands::new(alloc),
+                values: Vec::with_capacity(alloc, room.values)?,
+                pending: WaitingOperands::with_capacity(alloc, room.operations, room.operands)?,
                 loose: Vec::new(alloc),
             },
             spare_operands: Vec::new(alloc),
-        }
+        })
     }
 
     /// Does what the event with a number asks for. Half of all events ask for one addition, so this stands in the loop over
@@ -148,8 +150,7 @@ pub fn assemble<D: TextDialect>(
 {
     know_seen(ctx);
     ctx.reserve(room)?;
-    let content = Box::new(alloc, Content::new(alloc))?;
-    let mut assembler = Assembler::new(alloc, content);
+    let mut assembler = Assembler::with_room(alloc, room)?;
     // The contents of what has ended, whose memory serves again.
     let mut spares = Vec::new(alloc);
     for index in 0..events.len() {

@@ -19,10 +19,10 @@ use std::alloc::{AllocError, Global};
 
 /// The value that a token names.
 fn value_of(values: &[Option<Value>], resolution: &Resolution, token: usize) -> Option<Value>
-    ensures { result ≡ meant values.now resolution.now.definitions.items token }
+    ensures { result ≡ meant values.now resolution.now.definitions token }
 {
     let number = resolution.definitions.get(token)?;
-    *values.get(*number)?
+    *values.get(number)?
 }
 
 /// Gives an operation the operands that its names mean.
@@ -36,9 +36,9 @@ fn link_one<D: DialectTables>(
 ) -> Result<(), AllocError>
     requires op { IsSome ((seen ctx.old).operation op) }
     requires meant { (vs : List Value)
-        × AreMeant (seen ctx.old) values.now resolution.now.definitions.items vs tokens.now }
+        × AreMeant (seen ctx.old) values.now resolution.now.definitions vs tokens.now }
     ensures linked { (vs : List Value)
-        → AreMeant (seen ctx.old) values.now resolution.now.definitions.items vs tokens.now
+        → AreMeant (seen ctx.old) values.now resolution.now.definitions vs tokens.now
         → OnOk result (LinksOperands (seen ctx.old) (seen ctx.new) op vs) }
     // The loose things stay what they are, whatever the start was before which the operation wasn't there.
     ensures held { (start : Seen D.OpKind D.Attr D.TypeKey) (xs : List IRNode) → HoldsAllNew start (seen ctx.old) xs
@@ -66,10 +66,10 @@ pub fn link<D: DialectTables>(
 ) -> Result<(), AllocError>
     requires waiting { (start : Seen D.OpKind D.Attr D.TypeKey) × (mentions : List ℕ)
         × AreWaiting start (seen ctx.old) assembly.now.pending.items mentions }
-    requires meant { CanLink (seen ctx.old) assembly.now.values.items resolution.now.definitions.items
+    requires meant { CanLink (seen ctx.old) assembly.now.values.items resolution.now.definitions
         assembly.now.pending.items }
     ensures linked { OnOk result (Links (seen ctx.old) (seen ctx.new) assembly.now.values.items
-        resolution.now.definitions.items assembly.now.pending.items) }
+        resolution.now.definitions assembly.now.pending.items) }
     // The loose things stay what they are, on an error too.
     ensures held { (start : Seen D.OpKind D.Attr D.TypeKey) (mentions : List ℕ) (xs : List IRNode)
         → AreWaiting start (seen ctx.old) assembly.now.pending.items mentions → HoldsAllNew start (seen ctx.old) xs

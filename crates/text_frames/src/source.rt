@@ -10,13 +10,14 @@ ghost use Rattle.ir_tokens.specs.Tokens.{text_between};
 use ir_characters::Text;
 use ir_names::Signedness;
 use ir_print::Number;
+use ir_tokens::Numbers;
 
 /// A text with its tokens.
 #[derive(Clone, Copy)]
 pub struct Source<'a> {
     pub chars: Text<'a>,
     /// Where each token begins, and behind these where the text of the last one ends.
-    pub starts: &'a [usize],
+    pub starts: &'a Numbers,
 }
 
 impl<'a> Source<'a> {
@@ -32,12 +33,10 @@ impl<'a> Source<'a> {
     pub fn text(&self, token: usize) -> Text<'a>
         ensures { codes_of result ≡ text_between (codes_of self.now.chars) self.now.starts.now token }
     {
-        let Some([start, end, ..]) = self.starts.get(token..) else {
-            return Text::Bytes(&[]);
-        };
-        let end = self.chars.len().min(*end);
-        if *start <= end {
-            self.chars.slice(*start, end).trim_end()
+        let (start, next) = self.starts.pair(token);
+        let end = self.chars.len().min(next);
+        if start <= end {
+            self.chars.slice(start, end).trim_end()
         } else {
             Text::Bytes(&[])
         }

@@ -1,5 +1,5 @@
 //! The operands of operations, by the tokens that name them, until all values are made.
-ghost use Rattle.std.specs.Prelude.{◌≡◌, ◌<◌, ◌++◌, ◌∷◌, [], length, OnOk, Some, slice_get};
+ghost use Rattle.std.specs.Prelude.{◌≡◌, ◌<◌, ◌++◌, ◌∷◌, [], length, IfOk, OnOk, Some, slice_get};
 ghost use Rattle.text_frames.specs.Waiting.{Pending, HasRoom, start_from};
 
 use ir_program::{Operation, Ptr};
@@ -37,14 +37,21 @@ impl Model for WaitingOperands {
 }
 
 impl WaitingOperands {
-    /// No operation waits.
-    pub fn new(alloc: Global) -> WaitingOperands
-        ensures { result.items ≡ [] }
+    /// No operation waits. There is room for so many of them, and for so many tokens.
+    ///
+    /// # Errors
+    /// There may be no memory for so much.
+    pub fn with_capacity(
+        alloc: Global,
+        operations: usize,
+        tokens: usize,
+    ) -> Result<WaitingOperands, AllocError>
+        ensures { IfOk result (λ w. w.items ≡ []) }
     {
-        WaitingOperands {
-            rows: Vec::new(alloc),
-            tokens: Vec::new(alloc),
-        }
+        Ok(WaitingOperands {
+            rows: Vec::with_capacity(alloc, operations)?,
+            tokens: Vec::with_capacity(alloc, tokens)?,
+        })
     }
 
     /// How many operations wait.

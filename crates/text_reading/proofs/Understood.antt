@@ -41,7 +41,7 @@ use Rattle.text_reading.proofs.Renamed.{renamed_tree}
 -- ---- the whole text
 
 module _ (l : Language) (cs : List ℕ) (ts : List Token) (names : List ℕ) (stop : Stop) (n : ℕ) (es : List Event) (r : Resolution) (reading : IsReading l cs ts names stop n es)
-    (leads : Leads at_root [] es at_end []) (own : OwnTokens false es) (resolved : IsResolved l.isolated names es r) (enough : length ts ≤ length names) (many : length r.definitions.items ≡ length names) where
+    (leads : Leads at_root [] es at_end []) (own : OwnTokens false es) (resolved : IsResolved l.isolated names es r) (enough : length ts ≤ length names) (many : length r.definitions ≡ length names) where
   apart : SitesAreApart (definitions l.isolated es) (mentions l.isolated es)
   apart = are_apart l.isolated es own
 
@@ -49,32 +49,32 @@ module _ (l : Language) (cs : List ℕ) (ts : List Token) (names : List ℕ) (st
   within k lt = let few = reading_taken l cs ts names stop n es reading in omega arith
 
   -- at the token of each definition stands its number
-  defined_number : (i k : ℕ) → slice_get (defined_from 0 es) i ≡ Some k → slice_index r.definitions.items k ≡ i
+  defined_number : (i k : ℕ) → slice_get (defined_from 0 es) i ≡ Some k → slice_index r.definitions k ≡ i
   defined_number i k h =
       let d = defined_site l.isolated es i k h in
-      sym (ap (slice_index r.definitions.items) d.2) ∙ resolved.1.defined apart i d.0 d.1 (within d.0.token (definitions_taken l.isolated es own i d.0 d.1))
+      sym (ap (slice_index r.definitions) d.2) ∙ resolved.1.defined apart i d.0 d.1 (within d.0.token (definitions_taken l.isolated es own i d.0 d.1))
 
   -- each token that mentions a value has the number of a definition
-  mentioned_number : (i k : ℕ) → slice_get (mentioned_from 0 es) i ≡ Some k → (j : ℕ) × (slice_get r.definitions.items k ≡ Some j) × (j < length (defined_from 0 es))
+  mentioned_number : (i k : ℕ) → slice_get (mentioned_from 0 es) i ≡ Some k → (j : ℕ) × (slice_get r.definitions k ≡ Some j) × (j < length (defined_from 0 es))
   mentioned_number i k h =
       let m = mentioned_site l.isolated es i k h in
       let c = mentions_end l.isolated es leads i m.0 m.1 in
       let means = resolved.1.resolved i c.0 m.0 c.1 m.1 c.2 c.3 in
       let lt = within m.0.token (mentions_taken l.isolated es own i m.0 m.1) in
       let number = resolved.1.mentioned apart i means.0 m.0 m.1 means.1 lt in
-      let at : slice_get r.definitions.items m.0.token ≡ Some means.0 = slice_get-get_or r.definitions.items m.0.token 0 (omega arith) ∙ ap (λ x. Some x) number in
-      (means.0, sym (ap (slice_get r.definitions.items) m.2) ∙ at, (let there = slice_get_within (definitions l.isolated es) means.0 means.1.0 means.1.1 in omega (arith, many_defined l.isolated es)))
+      let at : slice_get r.definitions m.0.token ≡ Some means.0 = slice_get-get_or r.definitions m.0.token 0 (omega arith) ∙ ap (λ x. Some x) number in
+      (means.0, sym (ap (slice_get r.definitions) m.2) ∙ at, (let there = slice_get_within (definitions l.isolated es) means.0 means.1.0 means.1.1 in omega (arith, many_defined l.isolated es)))
 
   module _ {K A T : Type 0} (says : Saying K A T) (start s : Seen K A T) (first next : ℕ) (a : Assembly) (made : IsAssembled says l.values (token_text cs ts) start s first next a es) where
     -- each token of an operand means a value that is made
-    pub can_link_all : CanLink s a.values.items r.definitions.items a.pending.items
-    can_link_all = can_link says l.values (token_text cs ts) start s first next a es made r.definitions.items mentioned_number
+    pub can_link_all : CanLink s a.values.items r.definitions a.pending.items
+    can_link_all = can_link says l.values (token_text cs ts) start s first next a es made r.definitions mentioned_number
 
-    module _ (t : Seen K A T) (links : Links s t a.values.items r.definitions.items a.pending.items) where
+    module _ (t : Seen K A T) (links : Links s t a.values.items r.definitions a.pending.items) where
       -- the counter has moved on by the number of the tree's definitions
-      moved_on : IsNamed (HasFault l cs ts names stop n es) None → next ≡ first + length (definitions_of (renamed (slice_index r.definitions.items) made.tree))
+      moved_on : IsNamed (HasFault l cs ts names stop n es) None → next ≡ first + length (definitions_of (renamed (slice_index r.definitions) made.tree))
       moved_on none =
-          let number = slice_index r.definitions.items in
+          let number = slice_index r.definitions in
           let forest = built_forest es (leads_nests es at_root [] at_end [] leads) (built_ended es leads) in
           let tokens = definition_tokens l.isolated l.values (token_text cs ts) es (built es).here made.tree forest made.says_so leads (λ f h. none f (inr (inr (inl h)))) in
           let same : definitions_of (renamed number made.tree) ≡ map number (defined_from 0 es) = definitions_renamed number made.tree ∙ ap (map number) (tokens ∙ defined_tokens l.isolated es) in
@@ -85,14 +85,14 @@ module _ (l : Language) (cs : List ℕ) (ts : List Token) (names : List ℕ) (st
       -- the root is what the text says
       is_said : IsNamed (HasFault l cs ts names stop n es) None → IsSaid says l cs t first next made.root
       is_said none =
-          let number = slice_index r.definitions.items in
+          let number = slice_index r.definitions in
           let values = assembled_values says l.values (token_text cs ts) start s first next a es made in
           let forest = built_forest es (leads_nests es at_root [] at_end [] leads) (built_ended es leads) in record {
             tree = renamed number made.tree;
             values = values;
             said = (ts, names, stop, n, es, (built es).here, made.tree, r, reading, none, forest, made.says_so, resolved, refl);
             stands = renamed_tree says (Named values) HasOwnLabel number t made.root made.tree
-                (root_tree says l.values (token_text cs ts) start s first next a es made r.definitions.items t links defined_number);
+                (root_tree says l.values (token_text cs ts) start s first next a es made r.definitions t links defined_number);
             distinct = assembled_distinct says l.values (token_text cs ts) start s first next a es made;
             below = λ i v x. (assembled_defined says l.values (token_text cs ts) start s first next a es made i v x).1;
             counted = moved_on none;
@@ -103,12 +103,12 @@ module _ (l : Language) (cs : List ℕ) (ts : List Token) (names : List ℕ) (st
 
     module _ (t : Seen K A T) (last : ℕ) {E : Type 0} (result : Result (Ptr Operation) E) where
       -- what is answered was read
-      pub answers_read : OnOk result (Links s t a.values.items r.definitions.items a.pending.items) → IfOk result (λ p. a.root ≡ Some p)
+      pub answers_read : OnOk result (Links s t a.values.items r.definitions a.pending.items) → IfOk result (λ p. a.root ≡ Some p)
           → OnOk result (HoldsAllNew start t a.loose.items) → OnOk result (last ≡ next)
           → IsNamed (HasFault l cs ts names stop n es) None → IfOk result (IsRead says l cs start t first last)
       answers_read linked root held same none = go result linked root held same
         where
-          go : (result : Result (Ptr Operation) E) → OnOk result (Links s t a.values.items r.definitions.items a.pending.items) → IfOk result (λ p. a.root ≡ Some p)
+          go : (result : Result (Ptr Operation) E) → OnOk result (Links s t a.values.items r.definitions a.pending.items) → IfOk result (λ p. a.root ≡ Some p)
               → OnOk result (HoldsAllNew start t a.loose.items) → OnOk result (last ≡ next) → IfOk result (IsRead says l cs start t first last)
           go (Ok p) links e h k = subst (λ z. IsRead says l cs start t first z p) (sym k) (subst (IsRead says l cs start t first next) (root_is p e)
               (record { tells = is_said t links none; new = subst (HoldsAllNew start t) made.things h }))

@@ -116,9 +116,10 @@ fn place_of(source: Source, token: usize) -> (usize, usize)
     ensures { (ts : List Token) → source.entry.starts.now ≡ starts_of (codes_of source.entry.chars) ts
         → ReadsAs (codes_of source.entry.chars) 0 ts → result ≡ place_of (codes_of source.entry.chars) ts token }
 {
-    match source.starts.get(token..) {
-        Some([start, _, ..]) => place_after(source.front(*start)),
-        _ => place_after(source.chars),
+    if token < source.tokens() {
+        place_after(source.front(source.starts.at(token)))
+    } else {
+        place_after(source.chars)
     }
 }
 

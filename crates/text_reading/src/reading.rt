@@ -23,7 +23,7 @@ use ir_grammar::grammar::Reading;
 use ir_program::{Operation, Ptr, Room};
 use ir_scopes::depth::DEEPEST;
 use ir_scopes::scopes::{Resolution, ScopeFault};
-use ir_tokens::faults::TextFault;
+use ir_tokens::{Numbers, TextFault};
 use std::alloc::{AllocError, Global};
 use text_assembling::assembling::assemble;
 use text_dialect::{ReadDialect, TextDialect, grammar_of, resolve};
@@ -76,9 +76,9 @@ pub fn top_level_parse<D: ReadDialect>(
 #[derive(Drop)]
 struct ReadText {
     /// Where each token begins, and behind these where the text of the last one ends.
-    starts: Vec<usize>,
+    starts: Numbers,
     /// A number for each token that may be a name.
-    names: Vec<usize>,
+    names: Numbers,
     reading: Reading,
 }
 
@@ -86,9 +86,9 @@ struct ReadText {
 ///
 /// The kinds of the tokens go when they are read, so that their memory is free while the operation is made.
 fn read_text<D: ReadDialect>(alloc: Global, chars: Text) -> Result<ReadText, AllocError>
-    ensures reading { IfOk result (λ r. (ts : List Token) × (r.starts.items ≡ starts_of (codes_of chars.entry) ts)
+    ensures reading { IfOk result (λ r. (ts : List Token) × (r.starts ≡ starts_of (codes_of chars.entry) ts)
         × IsReading (language_of D.formats D.kind_at (is_isolated D.op_has) D.values) (codes_of chars.entry) ts
-        r.names.items r.reading.stop r.reading.taken r.reading.events.items) }
+        r.names r.reading.stop r.reading.taken r.reading.events.items) }
     ensures deep { IfOk result (λ r. IsFirstTooDeep r.reading.events.items r.reading.deep) }
 {
     let language: DialectGrammar = grammar_of::<D>(alloc)?;
@@ -107,12 +107,12 @@ fn understand<D: ReadDialect>(
     alloc: Global,
     ctx: &mut Context<D>,
     source: Source,
-    names: Vec<usize>,
+    names: Numbers,
     reading: &Reading,
 ) -> Result<Ptr<Operation>, TextFault>
     requires reading { (ts : List Token) × (source.starts.now ≡ starts_of (codes_of source.chars) ts)
         × IsReading (language_of D.formats D.kind_at (is_isolated D.op_has) D.values) (codes_of source.chars) ts
-        names.items reading.now.stop reading.now.taken reading.now.events.items }
+        names reading.now.stop reading.now.taken reading.now.events.items }
     requires deep { IsFirstTooDeep reading.now.events.items reading.now.deep }
     ensures read { IfOk result (IsRead D.says (language_of D.formats D.kind_at (is_isolated D.op_has) D.values)
         (codes_of source.entry.chars) (seen ctx.old) (seen ctx.new) ctx.old.program.counter ctx.new.program.counter) }
@@ -192,12 +192,12 @@ fn connect<D: TextDialect>(
     requires waiting { (start : Seen D.OpKind D.Attr D.TypeKey) × (mentions : List ℕ)
         × AreWaiting start (seen ctx.old) assembly.now.pending.items mentions
         × HoldsAllNew start (seen ctx.old) assembly.now.loose.items }
-    requires meant { CanLink (seen ctx.old) assembly.now.values.items resolution.now.definitions.items
+    requires meant { CanLink (seen ctx.old) assembly.now.values.items resolution.now.definitions
         assembly.now.pending.items }
     requires root { IsSome assembly.now.root }
     ensures root { IfOk result (λ root. assembly.now.root ≡ Some root) }
     ensures linked { OnOk result (Links (seen ctx.old) (seen ctx.new) assembly.now.values.items
-        resolution.now.definitions.items assembly.now.pending.items) }
+        resolution.now.definitions assembly.now.pending.items) }
     ensures held { (start : Seen D.OpKind D.Attr D.TypeKey) (mentions : List ℕ)
         → AreWaiting start (seen ctx.old) assembly.now.pending.items mentions
         → HoldsAllNew start (seen ctx.old) assembly.now.loose.items

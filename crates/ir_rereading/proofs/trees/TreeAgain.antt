@@ -151,7 +151,7 @@ token_at (x ∷ ss) (suc i) s h = token_at ss i s h
 module _ (isolated : ℕ → Bool) (v : Values) (names : List ℕ) (ds ms : List Site) (cs : List Closing) (r : Resolution) (text ν : ℕ → List ℕ) (tree t : Entity ℕ) where
   -- the number that the name at a token is looked up as
   abbrev number : ℕ → ℕ
-  number k = slice_index r.definitions.items k
+  number k = slice_index r.definitions k
 
   -- the token is spelled as the name of a value
   abbrev Spelled : ℕ → ℕ → Type 0
@@ -168,7 +168,7 @@ module _ (isolated : ℕ → Bool) (v : Values) (names : List ℕ) (ds ms : List
       → Resolves names ds ms cs r → SitesAreApart ds ms → ((m : Site) → In m ms → (j : ℕ) × Means names ds m j)
       → ((s : Site) → In s ds → s.token < length names) → ((m : Site) → In m ms → m.token < length names)
       → ((s m : Site) → In s ds → In m ms → name_of names s.token ≡ name_of names m.token → text s.token ≡ text m.token)
-      → unlabelled (renamed (slice_index r.definitions.items) tree) ≡ unlabelled t
+      → unlabelled (renamed (slice_index r.definitions) tree) ≡ unlabelled t
   tree_again same whole numbered scoped distinct tokens operands resolves apart meant here within alike =
       alike_to number tree t (alike_rebuild Spelled Numbered tree t spelled defines mentions)
     where

@@ -1,9 +1,8 @@
 -- The names of a text without faults of names can be looked up.
 use Rattle.std.proofs.Common.{◌≡◌, ℕ, zero, suc, ◌<◌, ◌^◌, List, [], ◌∷◌, map, length, Some, None, slice_get, slice_index, refl, sym, subst, ap, ◌∙◌, arith, ◌⊎◌, inl, inr}
-use denote.RawPtr.{null_ptr}
 use Rattle.std.specs.List.{range_with_len}
 use Rattle.std.proofs.lemmas.Bool.{cases_eq, cases_order}
-use Rattle.std.proofs.lemmas.List.FromFn.{get_or-map-range_with_len, length-map-range_with_len}
+use Rattle.std.proofs.lemmas.List.FromFn.{get_or-map-range_with_len}
 use Rattle.ir_tokens.specs.declared.faults.Fault.{Fault}
 use Rattle.ir_scopes.specs.declared.scopes.Resolution.{Resolution}
 use Rattle.ir_scopes.specs.declared.sites.Closing.{Closing}
@@ -84,20 +83,11 @@ module _ (names : List ℕ) (ds ms : List Site) (meant : (i : ℕ) (m : Site) �
           let same : n.1 ≡ m = cc in
           one_number names ds once m.scope (name_of names m.token) found.0 j (subst (λ (x : Site). Means names ds x found.0) same found.1) means
 
-  -- Where no name is defined twice and each mention has a definition, names are looked up so. A `Vec` holds the numbers, so there is
-  -- a bound on how many tokens there are.
-  pub resolution : (cs : List Closing) → ((f : Fault) → IsAgain names ds f → ⊥) → length names < 2 ^ 63 → (r : Resolution) × Resolves names ds ms cs r
-  resolution cs once fits = (
+  -- where no name is defined twice and each mention has a definition, names are looked up so
+  pub resolution : (cs : List Closing) → ((f : Fault) → IsAgain names ds f → ⊥) → (r : Resolution) × Resolves names ds ms cs r
+  resolution cs once = (
     record {
-      definitions = record {
-        ptr = null_ptr;
-        len = length numbers;
-        cap = length numbers;
-        alloc = record { memory = record { seal = tt } };
-        items = numbers;
-        ok = (refl, omega arith);
-        small = (let long = length-map-range_with_len number_at 0 (length names) in omega arith);
-      };
+      definitions = numbers;
       count = length ds;
       counts = record { operations = 0; regions = 0; labels = 0; mentions = 0 };
     },

@@ -119,7 +119,7 @@ module _ (isolated : ℕ → Bool) (values : Values) (text : ℕ → List ℕ) (
 
   module _ (names : List ℕ) (r : Resolution) (resolved : IsResolved isolated names es r) (apart : SitesAreApart (definitions isolated es) (mentions isolated es))
       (within : (s : Site) → In s (definitions isolated es) → s.token < length names) (within_too : (m : Site) → In m (mentions isolated es) → m.token < length names) where
-    numbers_meant : AllMeant isolated es (slice_index r.definitions.items)
+    numbers_meant : AllMeant isolated es (slice_index r.definitions)
     numbers_meant m i =
         let c = mentions_end isolated es leads i.0 m i.1 in
         let j = resolved.1.resolved i.0 c.0 m c.1 i.1 c.2 c.3 in
@@ -131,17 +131,17 @@ module _ (isolated : ℕ → Bool) (values : Values) (text : ℕ → List ℕ) (
         )
 
     -- Where the names of a text are looked up, its tree is scoped.
-    pub numbers_scoped : IsScopedRoot isolated (renamed (slice_index r.definitions.items) tree)
-    numbers_scoped = meant_scoped (slice_index r.definitions.items) numbers_meant
+    pub numbers_scoped : IsScopedRoot isolated (renamed (slice_index r.definitions) tree)
+    numbers_scoped = meant_scoped (slice_index r.definitions) numbers_meant
 
     -- Its definitions have the numbers from 0 on.
-    pub numbers_numbered : IsNumbered (renamed (slice_index r.definitions.items) tree)
+    pub numbers_numbered : IsNumbered (renamed (slice_index r.definitions) tree)
     numbers_numbered =
-        counted (definitions_of (renamed (slice_index r.definitions.items) tree)) 0 (λ j x at.
-        (let found = get_map (slice_index r.definitions.items) (definitions_of tree) j x (subst (λ xs. slice_get xs j ≡ Some x) (definitions_renamed (slice_index r.definitions.items) tree) at) in
+        counted (definitions_of (renamed (slice_index r.definitions) tree)) 0 (λ j x at.
+        (let found = get_map (slice_index r.definitions) (definitions_of tree) j x (subst (λ xs. slice_get xs j ≡ Some x) (definitions_renamed (slice_index r.definitions) tree) at) in
         let s = get_map (λ (s : Site). s.token) (definitions isolated es) j found.0 (subst (λ xs. slice_get xs j ≡ Some found.0) definition_tokens found.1) in
-        let is : slice_index r.definitions.items s.0.token ≡ j = resolved.1.defined apart j s.0 s.1 (within s.0 (j, s.1)) in
-        let same : slice_index r.definitions.items s.0.token ≡ x = ap (slice_index r.definitions.items) s.2 ∙ found.2 in
+        let is : slice_index r.definitions s.0.token ≡ j = resolved.1.defined apart j s.0 s.1 (within s.0 (j, s.1)) in
+        let same : slice_index r.definitions s.0.token ≡ x = ap (slice_index r.definitions) s.2 ∙ found.2 in
         omega arith))
 
   -- ---- from a tree to its text

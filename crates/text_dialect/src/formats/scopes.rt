@@ -8,6 +8,7 @@ use crate::TextDialect;
 use ir_grammar::grammar::Event;
 use ir_names::OpInterface;
 use ir_scopes::scopes::{Resolution, ScopeFault, look_up};
+use ir_tokens::Numbers;
 use std::alloc::{AllocError, Global};
 
 /// A dialect has at most so many kinds of operations that can be read.
@@ -33,14 +34,14 @@ fn isolated_kinds<D: TextDialect>(alloc: Global) -> Result<Vec<bool>, AllocError
 /// their places. The text may be unfinished: then the scopes that are still open have no fault yet.
 pub fn resolve<D: TextDialect>(
     alloc: Global,
-    names: Vec<usize>,
+    names: Numbers,
     events: &[Event],
 ) -> Result<Resolution, ScopeFault>
     requires { OwnTokens false events.now }
     ensures resolved { MatchResult result
-        (IsResolved (isolated_at D.kind_at (is_isolated D.op_has)) names.items events.now)
-        (IsScopeFault (isolated_at D.kind_at (is_isolated D.op_has)) names.items events.now) }
-    ensures many { IfOk result (λ r. length r.definitions.items ≡ length names.items) }
+        (IsResolved (isolated_at D.kind_at (is_isolated D.op_has)) names events.now)
+        (IsScopeFault (isolated_at D.kind_at (is_isolated D.op_has)) names events.now) }
+    ensures many { IfOk result (λ r. length r.definitions ≡ length names) }
 {
     let isolated = isolated_kinds::<D>(alloc)?;
     look_up(alloc, names, events, &isolated)

@@ -1,5 +1,5 @@
 use Rattle.std.proofs.Common.{◌≡◌, ◌+◌, ◌≤◌, ◌∷◌, [], ◌++◌, ℕ, Some, MatchOption, refl, take, get_or, sym, subst, ap, ◌∙◌, arith, slice_get}
-use Rattle.std.proofs.lemmas.List.{get_or-set_other, take_more, take_all}
+use Rattle.std.proofs.lemmas.List.{get_or-set_other, length-set, take_more, take_all}
 use Rattle.std.proofs.lemmas.Option.{slice_get-get_or, slice_get_within, get_or_from_slice_get}
 use Rattle.ir_scopes.specs.declared.sites.Site.{Site}
 use Rattle.ir_scopes.specs.Scopes.{AreLacking, SiteHasName, Means, IsUnresolved, name_of}
@@ -8,7 +8,7 @@ use Rattle.ir_scopes.proofs.Places.{written_more, written_same}
 use Rattle.ir_scopes.proofs.Lacking.{lacking_empty, lacking_kept, lacking_added}
 use Rattle.ir_scopes.proofs.ScopeWalks.{numbered}
 use Rattle.ir_scopes.proofs.scopes.note_mentions.Goals as goal
-use Rattle.ir_scopes.proofs.scopes.note_mentions.Goals.{in-Some, in-None+in_ok-insert-in-None}
+use Rattle.ir_scopes.proofs.scopes.note_mentions.Goals.{in-Some+in_ok-set-in-Some, in-None+in_ok-insert-in-None}
 
 pub loop-site-init : goal.loop-site-init
 loop-site-init c = record {
@@ -17,6 +17,7 @@ loop-site-init c = record {
   kept = λ k none. refl;
   walk = c.requires.walk;
   within = λ k m le at i x lt has. absurd (omega (arith, lt, c.requires.begins));
+  many = refl;
 }
 
 pub loop-site-preserved : goal.loop-site-preserved
@@ -49,14 +50,15 @@ loop-site-preserved c =
     omega (arith, low, up, ap (λ (t : Site). t.scope) a, ap (λ (t : Site). t.scope) b)) in
     let Suits : Site → ℕ → ℕ → Type 0 = λ m k v. (j : ℕ) → Means names ds m j → Means names ds m v in
     elim c.match-number_of.branch [
-      | in-Some w ↦ (
+      | in-Some+in_ok-set-in-Some w ↦ (
           let means : Means names ds x w.in-Some.number = subst (λ o. MatchOption o (IsUnresolved names ds x) (Means names ds x)) w.in-Some.is told in
-          rw (more, w.places-is, w.note.ensures, w.lacking-is) (record {
+          rw (more, w.places-is, w.in_ok-set-in-Some.ensures, w.lacking-is) (record {
             lacking = lacking_kept names ds (take i ms) x w.in-Some.number c.loop-site.lacking means now.lacking;
             noted = written_more Suits ms i x here c.loop-site.places w.in-Some.number (λ j e. means) c.requires.apart.mentions now.noted;
             kept = λ k none. get_or-set_other c.loop-site.places x.token k _ 0 (λ e. none i x (omega arith) here (sym e)) ∙ now.kept k (λ j m lt. none j m (omega (arith, lt)));
             walk = walk;
             within = later;
+            many = length-set c.loop-site.places x.token w.in-Some.number ∙ now.many;
           }))
       | in-None+in_ok-insert-in-None w ↦ (
           let lacks : IsUnresolved names ds x = subst (λ o. MatchOption o (IsUnresolved names ds x) (Means names ds x)) w.in-None.is told in
@@ -66,6 +68,7 @@ loop-site-preserved c =
             kept = λ k none. now.kept k (λ j m lt. none j m (omega (arith, lt)));
             walk = walk;
             within = later;
+            many = now.many;
           }))
     ]
 
@@ -75,7 +78,7 @@ returns-clause-lacking c = subst (λ ms. AreLacking c.args.places.now c.args.def
 pub returns-clause-noted : goal.returns-clause-noted
 returns-clause-noted c = λ i j m at means within.
     let there = slice_get_within c.args.mentions.now i m at in
-    c.loop-site.invariant.noted i m (omega (arith, c.loop-site-test.false)) at (omega (arith, c.loop-site.auto.places)) j means
+    c.loop-site.invariant.noted i m (omega (arith, c.loop-site-test.false)) at (omega (arith, c.loop-site.invariant.many)) j means
 
 pub returns-clause-kept : goal.returns-clause-kept
 returns-clause-kept c = λ k none. c.loop-site.invariant.kept k (λ i m lt. none i m)

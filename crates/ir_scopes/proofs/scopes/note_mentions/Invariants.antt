@@ -1,4 +1,4 @@
-use Rattle.std.proofs.Common.{◌≡◌, ℕ, ◌<◌, ◌≤◌, Some, take, slice_get, slice_index}
+use Rattle.std.proofs.Common.{◌≡◌, ℕ, ◌<◌, ◌≤◌, Some, take, slice_get, slice_index, length}
 use Rattle.ir_scopes.specs.declared.sites.Site.{Site}
 use Rattle.ir_scopes.specs.Scopes.{AreLacking, Means}
 use Rattle.ir_scopes.specs.Orders.{IsScopeWalk, IsWithinScope}
@@ -12,4 +12,5 @@ invariant-loop-site l = record {
   kept : (k : ℕ) → ((i : ℕ) (m : Site) → i < l.site-index → slice_get l.mentions i ≡ Some m → m.token ≡ k → ⊥) → slice_index l.places k ≡ slice_index l.fn.places k;
   walk : IsScopeWalk l.fn.places l.definitions l.walk;
   within : (k : ℕ) (m : Site) → l.site-index ≤ k → slice_get l.mentions k ≡ Some m → IsWithinScope l.walk m.scope;
+  many : length l.places ≡ length l.fn.places;
 }

@@ -22,13 +22,13 @@ returns-clause-fault c =
 
 pub returns-clause-defined : goal.returns-clause-defined
 returns-clause-defined c = λ j d at within.
-    let written = rw c.deref-3.ensures.value at c.note_definitions.ensures.noted in
-    written c.requires.definitions j d at (subst (λ n. d.token < n) c.note_definitions.auto.places within)
+    let written = rw c.deref-3.ensures.value at c.in_ok-note_definitions.ensures.noted in
+    written c.requires.definitions j d at (subst (λ n. d.token < n) c.in_ok-note_definitions.ensures.many within)
 
 pub returns-clause-mentioned : goal.returns-clause-mentioned
 returns-clause-mentioned c = λ i j m at means within.
     let s = c.args.sites.now in
     let noted = rw (c.deref-2.ensures.value, c.deref_mut.ensures.value) at c.in_ok-faults.ensures.noted in
-    let kept = rw c.deref-3.ensures.value at c.note_definitions.ensures.kept in
+    let kept = rw c.deref-3.ensures.value at c.in_ok-note_definitions.ensures.kept in
     let stays = kept m.token (λ k d there e. c.requires.both k i d m there at e) in
     subst (Means c.args.places.now s.definitions.items m) (sym stays) (noted i j m at means within)

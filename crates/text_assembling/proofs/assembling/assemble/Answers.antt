@@ -17,9 +17,9 @@ use Rattle.text_assembling.proofs.assembling.assemble.Goals as goal
 
 pub loop-index-init : goal.loop-index-init
 loop-index-init g c = record {
-  taken = rw c.new-assembler.ensures.taken (omega arith);
-  gathers = gathers_first g.D.TextDialect.says g.D.TextDialect.values (text_between (codes_of c.args.source.chars) c.args.source.starts.now) (stage c.reserve.new.self) c.new-assembler.result c.args.events.now
-      c.new-assembler.ensures (rw c.reserve.ensures.same c.know_seen.ensures.named) c.requires.nests c.requires.spelt;
+  taken = rw c.in_ok-assembler.ensures.taken (omega arith);
+  gathers = gathers_first g.D.TextDialect.says g.D.TextDialect.values (text_between (codes_of c.args.source.chars) c.args.source.starts.now) (stage c.reserve.new.self) c.in_ok-assembler.assembler c.args.events.now
+      c.in_ok-assembler.ensures (rw c.reserve.ensures.same c.know_seen.ensures.named) c.requires.nests c.requires.spelt;
   erased = erased_same _ _ refl;
   payloads = payloads_none _;
 }
@@ -113,11 +113,11 @@ returns-clause-sound g c =
     gathers_sound g.D.TextDialect.says g.D.TextDialect.values text (seen c.reserve.new.self) c.reserve.new.self.program.counter (stage c.loop-index.ctx) c.loop-index.assembler es []
     (subst (λ rest. Gathers g.D.TextDialect.says g.D.TextDialect.values text (seen c.reserve.new.self) c.reserve.new.self.program.counter (stage c.loop-index.ctx) c.loop-index.assembler es rest) (drop_of_length-le es (omega (arith, c.loop-index-test.false))) c.loop-index.invariant.gathers)
 
-pub returns-in_err-content-clause-undone : goal.returns-in_err-content-clause-undone
-returns-in_err-content-clause-undone g c = rw (sym c.reserve.ensures.same) (on_err_any _ (seen_same _))
+pub returns-in_err-assembler-clause-undone : goal.returns-in_err-assembler-clause-undone
+returns-in_err-assembler-clause-undone g c = rw (sym c.reserve.ensures.same) (on_err_any _ (seen_same _))
 
-pub returns-in_err-content-clause-erased : goal.returns-in_err-content-clause-erased
-returns-in_err-content-clause-erased g c = rw (sym c.reserve.ensures.same) (erased_same _ _ refl)
+pub returns-in_err-assembler-clause-erased : goal.returns-in_err-assembler-clause-erased
+returns-in_err-assembler-clause-erased g c = rw (sym c.reserve.ensures.same) (erased_same _ _ refl)
 
-pub returns-in_err-content-clause-payloads : goal.returns-in_err-content-clause-payloads
-returns-in_err-content-clause-payloads g c = rw (sym c.reserve.ensures.same) (payloads_none _)
+pub returns-in_err-assembler-clause-payloads : goal.returns-in_err-assembler-clause-payloads
+returns-in_err-assembler-clause-payloads g c = rw (sym c.reserve.ensures.same) (payloads_none _)

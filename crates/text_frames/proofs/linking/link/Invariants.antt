@@ -7,7 +7,7 @@ use Rattle.text_frames.proofs.linking.link.Given as goal
 -- the operations up to here have their operands
 abbrev pub invariant-loop-index : goal.invariant-loop-index
 invariant-loop-index g l = record {
-  linked : LinksFirst (seen l.fn.ctx) (seen l.ctx) l.assembly.values.items l.resolution.definitions.items
+  linked : LinksFirst (seen l.fn.ctx) (seen l.ctx) l.assembly.values.items l.resolution.definitions
       l.assembly.pending.items l.index;
   held : KeepsHeld (seen l.fn.ctx) (seen l.ctx) l.assembly.pending.items;
   numbers : GivesNumbers l.fn.ctx.program l.ctx.program 0;

@@ -25,7 +25,7 @@ link_operands-requires-clause-values g c =
     let said = c.requires.meant in
     let s = seen c.args.ctx.now in
     let t = seen c.loop-token.ctx in
-    let it = named_value s c.args.values.now c.args.resolution.now.definitions.items said.0
+    let it = named_value s c.args.values.now c.args.resolution.now.definitions said.0
     c.args.tokens.now c.args.tokens.now c.loop-token.token-index c.value_of.result
     refl said.1 c.loop-token-test.true c.value_of.ensures in
     let same : it.0 ≡ c.in-Some.value = cc (it.2, c.in-Some.is) in
@@ -56,7 +56,7 @@ loop-token-preserved g c =
     elim c.match-value_of.branch [
       | in-Some+in_ok-link_operands w ↦ rw w.ctx-is (record {
         linked = λ vs said.
-            let it = named_value s c.args.values.now c.args.resolution.now.definitions.items vs
+            let it = named_value s c.args.values.now c.args.resolution.now.definitions vs
             c.args.tokens.now c.args.tokens.now i c.value_of.result
             refl said c.loop-token-test.true c.value_of.ensures in
             let same : it.0 ≡ w.in-Some.value = cc (it.2, w.in-Some.is) in
@@ -68,7 +68,7 @@ loop-token-preserved g c =
       })
       | in_default w ↦ rw w.ctx-is (record {
         linked = λ vs said.
-            let it = named_value s c.args.values.now c.args.resolution.now.definitions.items vs
+            let it = named_value s c.args.values.now c.args.resolution.now.definitions vs
             c.args.tokens.now c.args.tokens.now i c.value_of.result
             refl said c.loop-token-test.true c.value_of.ensures in
             let out : ⊥ = cc (it.2, w.in_default.is) in
