@@ -8,7 +8,7 @@ use std::process::ExitCode;
 
 /// Blocks of up to so many bytes are kept for what comes next when they are given back. With more the largest tables of
 /// a long text would stay, too, and with them more memory than the passes need at once.
-const KEPT: usize = 6 << 20;
+const KEPT: usize = 7 << 19;
 
 /// Has the C library keep what is given back, rather than return it to the system and fetch it anew.
 ///

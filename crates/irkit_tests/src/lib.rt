@@ -15,6 +15,8 @@ mod fakes;
 #[cfg(test)]
 mod grammars;
 #[cfg(test)]
+mod numbers;
+#[cfg(test)]
 mod passes;
 #[cfg(test)]
 mod printed;

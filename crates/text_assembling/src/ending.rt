@@ -25,9 +25,7 @@ use text_dialect::TextDialect;
 use text_frames::opened::{AssemblyFault, Body, Content, Open};
 
 impl<D: TextDialect> Assembler<D> {
-    /// What was begun ends at the last token, in what is around it. It has one caller and stands apart from it: where it
-    /// stood in the loop over all events, each of them copied a result with room for a fault.
-    #[inline(never)]
+    /// What was begun ends at the last token, in what is around it.
     #[tactic(auto, using(crate::proofs::Undone::types_same, crate::proofs::Undone::erased_same, crate::proofs::Undone::payloads_same, crate::proofs::Undone::undone_same))]
     fn end_in(
         &mut self,
