@@ -5,6 +5,7 @@ ghost use Rattle.ir_entities.specs.Placed.{IsDistinctRow, ReleasesPlaces, Renumb
 ghost use Rattle.ir_entities.specs.Rows.{IsRowOf, PushesIn, InsertsIn, RemovesIn};
 
 use crate::uses::{Spot, Uses};
+use smallvec::SmallVec;
 use std::alloc::AllocError;
 
 /// Gives each place of a row its index there, from `from` on.
@@ -35,7 +36,7 @@ pub fn release<K: Copy>(uses: &mut Uses<K>, row: &[usize])
 /// nothing is changed.
 pub fn push_place<K: Copy>(
     uses: &mut Uses<K>,
-    row: &mut Vec<usize>,
+    row: &mut SmallVec<usize, 2>,
     user: usize,
     definition: usize,
 ) -> Result<(), AllocError>
@@ -60,7 +61,7 @@ pub fn push_place<K: Copy>(
 /// there and behind move back by one. On an error nothing is changed.
 pub fn insert_place<K: Copy>(
     uses: &mut Uses<K>,
-    row: &mut Vec<usize>,
+    row: &mut SmallVec<usize, 2>,
     user: usize,
     index: usize,
     definition: usize,
@@ -82,7 +83,12 @@ pub fn insert_place<K: Copy>(
 }
 
 /// Takes the place at an index of a user's row out of use. The places behind it move up by one.
-pub fn remove_place<K: Copy>(uses: &mut Uses<K>, row: &mut Vec<usize>, user: usize, index: usize)
+pub fn remove_place<K: Copy>(
+    uses: &mut Uses<K>,
+    row: &mut SmallVec<usize, 2>,
+    user: usize,
+    index: usize,
+)
     requires row { IsRowOf (place_of uses.old) row.old.items user }
     requires within { index < length row.old.items }
     ensures removed { (p : ℕ)
@@ -95,7 +101,7 @@ pub fn remove_place<K: Copy>(uses: &mut Uses<K>, row: &mut Vec<usize>, user: usi
 }
 
 /// Takes all places of a user's row out of use.
-pub fn clear_row<K: Copy>(uses: &mut Uses<K>, row: &mut Vec<usize>)
+pub fn clear_row<K: Copy>(uses: &mut Uses<K>, row: &mut SmallVec<usize, 2>)
     requires distinct { IsDistinctRow row.old.items }
     requires used { (k q : ℕ) → slice_get row.old.items k ≡ Some q → IsPlace uses.old q }
     ensures emptied { row.new.items ≡ [] }

@@ -33,9 +33,11 @@ impl Classified {
     fn with_capacity(alloc: Global, tokens: usize) -> Result<Classified, AllocError>
         ensures { IfOk result (λ c. (c.starts ≡ []) × (c.kinds.items ≡ []) × (c.names ≡ [])) }
     {
+        // The kinds come first, so that the starts and the names, which go together, lie side by side.
+        let kinds = Vec::with_capacity(alloc, tokens)?;
         Ok(Classified {
             starts: Numbers::with_capacity(alloc, tokens)?,
-            kinds: Vec::with_capacity(alloc, tokens)?,
+            kinds,
             names: Numbers::with_capacity(alloc, tokens)?,
         })
     }

@@ -1,5 +1,5 @@
 //! The definitions of an operation's results or of a block's arguments.
-ghost use Rattle.std.specs.Prelude.{◌≡◌, ℕ, ◌≤◌, ◌<◌, length, Some, OnOk, OnErr, IfSome, slice_get, vec_capacity};
+ghost use Rattle.std.specs.Prelude.{◌≡◌, ℕ, ◌≤◌, ◌<◌, length, Some, OnOk, OnErr, IfSome, slice_get};
 ghost use Rattle.ir_entities.specs.Uses.{IsDefined, NamesDefinition};
 ghost use Rattle.ir_program.specs.Making.{InsertsDefinition, RemovesDefinition};
 
@@ -7,24 +7,13 @@ use crate::Value;
 use crate::records::Definition;
 use ir_base::TypeHandle;
 use ir_entities::Uses;
+use smallvec::SmallVec;
 use std::alloc::AllocError;
-
-/// Makes room for one definition more. Most operations have one result, which takes no more room than it needs.
-fn make_room(definitions: &mut Vec<Definition>) -> Result<(), AllocError>
-    ensures items { definitions.new.items ≡ definitions.old.items }
-    ensures room { OnOk result (length definitions.new.items < vec_capacity definitions.new) }
-{
-    if definitions.is_empty() {
-        definitions.reserve_exact(1)
-    } else {
-        definitions.reserve(1)
-    }
-}
 
 /// Defines a value, and puts its definition at an index of its definer's.
 pub(crate) fn insert_definition(
     values: &mut Uses<Value>,
-    definitions: &mut Vec<Definition>,
+    definitions: &mut SmallVec<Definition, 1>,
     index: usize,
     value: Value,
     ty: TypeHandle,
@@ -35,7 +24,7 @@ pub(crate) fn insert_definition(
     ensures values_err { OnErr result (values.new ≡ values.old) }
     ensures definitions_err { OnErr result (definitions.new.items ≡ definitions.old.items) }
 {
-    make_room(definitions)?;
+    definitions.reserve(1)?;
     let thread = values.define(value)?;
     let definition = Definition {
         number: value.number(),
@@ -51,7 +40,7 @@ pub(crate) fn insert_definition(
 /// Takes away the definition at an index, whose value no place names.
 pub(crate) fn remove_definition(
     values: &mut Uses<Value>,
-    definitions: &mut Vec<Definition>,
+    definitions: &mut SmallVec<Definition, 1>,
     index: usize,
 ) -> Definition
     requires within { index < length definitions.old.items }

@@ -7,6 +7,7 @@ ghost use Rattle.ir_program.specs.Made.{MakesBareOperation, MakesBareBlock, Make
 
 use crate::records::{BlockRecord, OperationRecord, RegionRecord};
 use crate::{BasicBlock, Operation, Program, Ptr, Region};
+use smallvec::SmallVec;
 use std::alloc::{AllocError, Global};
 
 impl<O: Drop, B: Drop> Program<O, B> {
@@ -22,9 +23,9 @@ impl<O: Drop, B: Drop> Program<O, B> {
         self.forest.know();
         let key = self.forest.new_op(OperationRecord {
             payload,
-            results: Vec::new(alloc),
-            operands: Vec::new(alloc),
-            successors: Vec::new(alloc),
+            results: SmallVec::new(alloc),
+            operands: SmallVec::new(alloc),
+            successors: SmallVec::new(alloc),
         })?;
         self.forest.know();
         Ok(Ptr::new(key))
@@ -43,7 +44,7 @@ impl<O: Drop, B: Drop> Program<O, B> {
         self.targets.know_named();
         let key = self.forest.new_block(BlockRecord {
             payload,
-            arguments: Vec::new(alloc),
+            arguments: SmallVec::new(alloc),
             thread: 0,
         })?;
         let Ok(thread) = self.targets.define(Ptr::new(key)) else {

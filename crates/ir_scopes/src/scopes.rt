@@ -14,6 +14,7 @@ use crate::sites::{Closing, Site, Sites, sites_of};
 use ir_grammar::grammar::Event;
 use ir_tokens::Numbers;
 use ir_tokens::faults::{Fault, FaultKind, first_of};
+use ir_tokens::numbers::put;
 use std::alloc::{AllocError, AllocFailed, Global};
 use std::collections::BTreeSet;
 
@@ -222,7 +223,7 @@ impl Walk {
         ensures again { IsFirstOf self.old.again (again_at (number_passed self.old scope name) token) self.new.again }
     {
         self.again = first_of(self.again, self.fault_at(scope, name, token));
-        note(&mut self.latest, name, self.passed);
+        put(&mut self.latest, name, self.passed);
         self.passed += 1;
     }
 
@@ -281,15 +282,6 @@ fn lacking_fault(closings: &[Closing], lacking: &BTreeSet<usize>) -> Option<Faul
         }
     }
     fault
-}
-
-/// Writes a number to the place of a token, if it has one.
-fn note(places: &mut [usize], token: usize, number: usize)
-    ensures { places.new ≡ slice_set places.old token number }
-{
-    if token < places.len() {
-        places[token] = number;
-    }
 }
 
 /// Writes the number of each definition to the place of its token.

@@ -1,5 +1,5 @@
 //! Numbers in a row.
-ghost use Rattle.std.specs.Prelude.{◌≡◌, ◌<◌, ◌+◌, ◌^◌, ◌++◌, ◌∷◌, [], length, IfOk, OnOk, slice_get, slice_index, slice_set};
+ghost use Rattle.std.specs.Prelude.{◌≡◌, ◌<◌, ◌+◌, ◌^◌, ◌++◌, ◌∷◌, [], length, IfOk, OnOk, OnErr, slice_get, slice_index, slice_set};
 
 use std::alloc::{AllocError, Global};
 use std::marker::Model;
@@ -104,11 +104,12 @@ impl Numbers {
     /// Puts a number behind the others.
     ///
     /// # Errors
-    /// There may be no memory for it.
+    /// There may be no memory for it. Then nothing is changed.
     // A text asks for this at each token, so it stands where it is asked for.
     #[inline(always)]
     pub fn push(&mut self, number: usize) -> Result<(), AllocError>
-        ensures { OnOk result (self.new ≡ self.old ++ number ∷ []) }
+        ensures pushed { OnOk result (self.new ≡ self.old ++ number ∷ []) }
+        ensures err { OnErr result (self.new ≡ self.old) }
     {
         if let Stored::Short(short) = &mut self.stored {
             if number <= u32::MAX as usize {
@@ -122,7 +123,8 @@ impl Numbers {
     /// Puts a number behind the others, each of which takes eight bytes from now on.
     #[inline(never)]
     fn push_long(&mut self, number: usize) -> Result<(), AllocError>
-        ensures { OnOk result (self.new ≡ self.old ++ number ∷ []) }
+        ensures pushed { OnOk result (self.new ≡ self.old ++ number ∷ []) }
+        ensures err { OnErr result (self.new ≡ self.old) }
     {
         match &mut self.stored {
             Stored::Short(short) => {
@@ -138,10 +140,11 @@ impl Numbers {
     /// Puts a number in the place of the one at an index, if there is one.
     ///
     /// # Errors
-    /// There may be no memory for the first number that is not below 2^32.
+    /// There may be no memory for the first number that is not below 2^32. Then nothing is changed.
     #[inline(always)]
     pub fn set(&mut self, index: usize, number: usize) -> Result<(), AllocError>
-        ensures { OnOk result (self.new ≡ slice_set self.old index number) }
+        ensures set { OnOk result (self.new ≡ slice_set self.old index number) }
+        ensures err { OnErr result (self.new ≡ self.old) }
     {
         if let Stored::Short(short) = &mut self.stored {
             if number <= u32::MAX as usize {
@@ -157,7 +160,8 @@ impl Numbers {
     /// Puts a number in the place of the one at an index, if there is one. Each takes eight bytes from now on.
     #[inline(never)]
     fn set_long(&mut self, index: usize, number: usize) -> Result<(), AllocError>
-        ensures { OnOk result (self.new ≡ slice_set self.old index number) }
+        ensures set { OnOk result (self.new ≡ slice_set self.old index number) }
+        ensures err { OnErr result (self.new ≡ self.old) }
     {
         match &mut self.stored {
             Stored::Short(short) => {
@@ -172,7 +176,7 @@ impl Numbers {
 }
 
 /// Puts a number in the place of the one at an index, if there is one.
-fn put(numbers: &mut [usize], index: usize, number: usize)
+pub fn put(numbers: &mut [usize], index: usize, number: usize)
     ensures { numbers.new ≡ slice_set numbers.old index number }
 {
     if index < numbers.len() {

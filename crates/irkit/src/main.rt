@@ -6,9 +6,9 @@ use std::alloc::{AllocError, Global};
 use std::env;
 use std::process::ExitCode;
 
-/// Blocks of up to so many bytes are kept for what comes next when they are given back. With more the largest tables of
+/// Blocks of up to 4 MB are kept for what comes next when they are given back. With more the largest tables of
 /// a long text would stay, too, and with them more memory than the passes need at once.
-const KEPT: usize = 7 << 19;
+const KEPT: usize = 4 << 20;
 
 /// Has the C library keep what is given back, rather than return it to the system and fetch it anew.
 ///

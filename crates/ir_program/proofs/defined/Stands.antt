@@ -2,7 +2,7 @@
 use Rattle.std.proofs.Common.{◌≡◌, ℕ, cond, List, [], map, Option, Some, None, option_map, unwrap_or, refl, sym, ap, ◌∙◌, subst, slice_get, remove, get_or, length, ◌<◌}
 use Rattle.std.proofs.lemmas.Bool.{eq-eqb}
 use Rattle.std.proofs.lemmas.List.{length-map}
-use Rattle.std.proofs.lemmas.Option.{slice_get-map, slice_get_read}
+use Rattle.std.proofs.lemmas.Option.{slice_get-map, slice_get-get_or}
 use Rattle.ir_arena.specs.declared.arena.Slot.{Slot}
 use Rattle.ir_arena.specs.Arena.{get, held, slot_at}
 use Rattle.ir_entities.specs.Forest.{pointer_to}
@@ -107,11 +107,11 @@ module _ {O B : Type 0} (c : Program O B) where
 
 -- what was read among the results of an operation is seen there
 module _ {O B : Type 0} (c d : Program O B) (view : c ≡ d) where
-  pub result-read : (p : Ptr Operation) (o : OperationRecord O) → Some o ≡ get c.forest.ops p.key → (k : ℕ) → k < result_count d p → (x : Definition) → x ≡ get_or o.results.items k x → slice_get (definitions_of c (ByOp p)) k ≡ Some x
-  result-read p o here k within x read =
+  pub result-read : (p : Ptr Operation) (o : OperationRecord O) → Some o ≡ get c.forest.ops p.key → (k : ℕ) → k < result_count d p → (x blank : Definition) → x ≡ get_or o.results.items k blank → slice_get (definitions_of c (ByOp p)) k ≡ Some x
+  result-read p o here k within x blank read =
       let are : definitions_of c (ByOp p) ≡ o.results.items = results-of c p o (sym here) in
       let count : result_count d p ≡ length o.results.items = ap (λ y. result_count y p) (sym view) ∙ ap length (results-seen_as c p) ∙ length-map _ _ ∙ ap length are in
-      ap (λ l. slice_get l k) are ∙ slice_get_read o.results.items (length o.results.items) k x refl (subst (λ n. k < n) count within) read
+      ap (λ l. slice_get l k) are ∙ (slice_get-get_or o.results.items k blank (subst (λ n. k < n) count within) ∙ ap Some (sym read))
 
   pub result-shown : (p : Ptr Operation) (k : ℕ) (x : Definition) → slice_get (definitions_of c (ByOp p)) k ≡ Some x → (v : Value) → v ≡ value_for (ByOp p) x → value_in (results_at d p) k ≡ Some v
   result-shown p k x stands v is = subst (λ y. value_in (results_at y p) k ≡ Some v) view
@@ -123,11 +123,11 @@ module _ {O B : Type 0} (c d : Program O B) (view : c ≡ d) where
 
 -- what was read among the arguments of a block is seen there
 module _ {O B : Type 0} (c d : Program O B) (view : c ≡ d) where
-  pub argument-read : (p : Ptr BasicBlock) (b : BlockRecord B) → Some b ≡ get c.forest.blocks p.key → (k : ℕ) → k < argument_count d p → (x : Definition) → x ≡ get_or b.arguments.items k x → slice_get (definitions_of c (ByBlock p)) k ≡ Some x
-  argument-read p b here k within x read =
+  pub argument-read : (p : Ptr BasicBlock) (b : BlockRecord B) → Some b ≡ get c.forest.blocks p.key → (k : ℕ) → k < argument_count d p → (x blank : Definition) → x ≡ get_or b.arguments.items k blank → slice_get (definitions_of c (ByBlock p)) k ≡ Some x
+  argument-read p b here k within x blank read =
       let are : definitions_of c (ByBlock p) ≡ b.arguments.items = arguments-of c p b (sym here) in
       let count : argument_count d p ≡ length b.arguments.items = ap (λ y. argument_count y p) (sym view) ∙ ap length (arguments-seen_as c p) ∙ length-map _ _ ∙ ap length are in
-      ap (λ l. slice_get l k) are ∙ slice_get_read b.arguments.items (length b.arguments.items) k x refl (subst (λ n. k < n) count within) read
+      ap (λ l. slice_get l k) are ∙ (slice_get-get_or b.arguments.items k blank (subst (λ n. k < n) count within) ∙ ap Some (sym read))
 
   pub argument-shown : (p : Ptr BasicBlock) (k : ℕ) (x : Definition) → slice_get (definitions_of c (ByBlock p)) k ≡ Some x → (v : Value) → v ≡ value_for (ByBlock p) x → value_in (arguments_at d p) k ≡ Some v
   argument-shown p k x stands v is = subst (λ y. value_in (arguments_at y p) k ≡ Some v) view

@@ -2,7 +2,7 @@
 use Rattle.std.proofs.Common.{◌≡◌, ℕ, ⊎_elim, Option, List, [], map, Some, is_some, refl, sym, ap, ◌∙◌, subst}
 use Rattle.std.proofs.lemmas.Bool.{cases_eq}
 use Rattle.std.proofs.lemmas.List.{length-set}
-use Rattle.std.specs.Global.{Vec}
+use Rattle.smallvec.specs.SmallVec.{SmallVec}
 use Rattle.ir_arena.specs.declared.arena.Key.{Key}
 use Rattle.ir_arena.specs.declared.arena.Slot.{Slot}
 use Rattle.ir_arena.specs.Arena.{get, held}
@@ -39,7 +39,7 @@ used-lent slots k v w here i = ⊎_elim
     (λ ne. ap is_some (held-lent_other slots k v w here i ne))
     (cases_eq i k.slot)
 
-module _ {O B : Type 0} (c : Program O B) (p : Ptr Operation) (o : OperationRecord O) (here : get c.forest.ops p.key ≡ Some o) (rows : Vec ℕ) (inv : IsProgram c) (emptied : rows.items ≡ []) where
+module _ {O B : Type 0} (c : Program O B) (p : Ptr Operation) (o : OperationRecord O) (here : get c.forest.ops p.key ≡ Some o) (rows : SmallVec ℕ) (inv : IsProgram c) (emptied : rows.items ≡ []) where
   -- without operands
   module _ (u : Uses Value) (keys : u.definitions ≡ c.values.definitions) (releases : ReleasesPlaces (place_of c.values) (place_of u) o.operands.items) where
     operands-placed : IsPlaced (place_of u) (operand_row (Operands.edited c p o here rows u))

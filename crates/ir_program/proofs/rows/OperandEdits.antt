@@ -1,7 +1,7 @@
 -- An operation whose row of operands is edited.
 use Rattle.std.proofs.Common.{◌≡◌, ℕ, ◌++◌, List, [], ◌∷◌, map, ⊎_elim, Some, option_map, unwrap_or, slice_get, insert, remove, set, refl, sym, ap, ◌∙◌, subst}
 use Rattle.std.proofs.lemmas.Bool.{cases_eq}
-use Rattle.std.specs.Global.{Vec}
+use Rattle.smallvec.specs.SmallVec.{SmallVec}
 use Rattle.ir_arena.specs.Arena.{get}
 use Rattle.ir_entities.specs.Uses.{Uses, key_of, place_of, named_of, SetsPlace, naming}
 use Rattle.ir_entities.specs.Placed.{IsPlaced, KeepsOtherRows}
@@ -24,7 +24,7 @@ use Rattle.ir_program.proofs.rows.RowFrames.{same_results, other_slot, threaded-
 use Rattle.ir_program.proofs.rows.RowReads.{operand-row}
 use Rattle.ir_program.proofs.defined.OwnNumbers.{own-same}
 
-module _ {O B : Type 0} (c : Program O B) (p : Ptr Operation) (o : OperationRecord O) (here : get c.forest.ops p.key ≡ Some o) (rows : Vec ℕ) where
+module _ {O B : Type 0} (c : Program O B) (p : Ptr Operation) (o : OperationRecord O) (here : get c.forest.ops p.key ≡ Some o) (rows : SmallVec ℕ) where
   -- the operation with these places of operands
   abbrev pub with_operands : OperationRecord O
   with_operands = record o { operands = rows }

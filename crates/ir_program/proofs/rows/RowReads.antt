@@ -1,7 +1,7 @@
 -- What the rows of an operation hold, and what a contract sees of them.
 use Rattle.std.proofs.Common.{◌≡◌, ℕ, zero, suc, ◌<◌, ◌++◌, get_or, length, List, [], ◌∷◌, map, remove, Option, Some, None, IsSome, option_map, unwrap_or, slice_get, refl, sym, ap, ◌∙◌, subst, arith}
 use Rattle.std.proofs.lemmas.List.{length-map}
-use Rattle.std.proofs.lemmas.Option.{slice_get-map, slice_get_read, same_Some}
+use Rattle.std.proofs.lemmas.Option.{slice_get-map, slice_get-get_or, same_Some}
 use Rattle.ir_arena.specs.Arena.{get}
 use Rattle.ir_entities.specs.Uses.{Uses, PlaceOfUse, key_of, place_of, named_of, IsDefined, NamesDefinition}
 use Rattle.ir_entities.specs.Rows.{IsRowOf}
@@ -62,8 +62,10 @@ module _ {O B : Type 0} (c : Program O B) (p : Ptr Operation) (o : OperationReco
       (placed-row (place_of c.targets) (successor_row c) p.key.slot inv.successors)
 
   -- the place at an index that is seen
-  pub operand-stood : (k x : ℕ) → k < length (operands_at c p) → x ≡ get_or o.operands.items k x → slice_get o.operands.items k ≡ Some x
-  operand-stood k x l h = slice_get_read o.operands.items _ k x (ap length operands-are ∙ length-map o.operands.items (value_named c.values)) l h
+  pub operand-stood : (k x : ℕ) → k < length (operands_at c p) → x ≡ get_or o.operands.items k 0 → slice_get o.operands.items k ≡ Some x
+  operand-stood k x l h =
+      let many : length (operands_at c p) ≡ length o.operands.items = ap length operands-are ∙ length-map o.operands.items (value_named c.values) in
+      slice_get-get_or o.operands.items k 0 (subst (λ n. k < n) many l) ∙ ap Some (sym h)
 
   -- the operand that is seen there
   pub operand-named : (k x d : ℕ) (v : Value) → slice_get o.operands.items k ≡ Some x → NamesDefinition c.values x d → key_of c.values d ≡ Some v → slice_get (operands_at c p) k ≡ Some v
@@ -72,8 +74,10 @@ module _ {O B : Type 0} (c : Program O B) (p : Ptr Operation) (o : OperationReco
   pub successor-named : (k x d : ℕ) (b : Ptr BasicBlock) → slice_get o.successors.items k ≡ Some x → NamesDefinition c.targets x d → key_of c.targets d ≡ Some b → slice_get (successors_at c p) k ≡ Some b
   successor-named k x d b e names key = ap (λ xs. slice_get xs k) successors-are ∙ row-named _ c.targets o.successors.items k x d b e names key
 
-  pub successor-stood : (k x : ℕ) → k < length (successors_at c p) → x ≡ get_or o.successors.items k x → slice_get o.successors.items k ≡ Some x
-  successor-stood k x l h = slice_get_read o.successors.items _ k x (ap length successors-are ∙ length-map o.successors.items (block_named c.targets)) l h
+  pub successor-stood : (k x : ℕ) → k < length (successors_at c p) → x ≡ get_or o.successors.items k 0 → slice_get o.successors.items k ≡ Some x
+  successor-stood k x l h =
+      let many : length (successors_at c p) ≡ length o.successors.items = ap length successors-are ∙ length-map o.successors.items (block_named c.targets) in
+      slice_get-get_or o.successors.items k 0 (subst (λ n. k < n) many l) ∙ ap Some (sym h)
 
 -- a value whose thread is in use stands at its definer
 pub known-value : {O B : Type 0} (c : Program O B) (d : ℕ) (v : Value) → IsProgram c → key_of c.values d ≡ Some v → IsLiveValue c v

@@ -220,7 +220,7 @@ module _ {O B : Type 0} (c d : Program O B) (view : c ≡ d) (inv : IsProgram c)
 
 -- the successor at one index is another block
 module _ {O B : Type 0} (c d : Program O B) (view : c ≡ d) (inv : IsProgram c) (p : Ptr Operation) (o : OperationRecord O) (here : get c.forest.ops p.key ≡ Some o)
-    (k : ℕ) (was : Ptr BasicBlock) (given : slice_get (successors_at d p) k ≡ Some was) (q : ℕ) (read : q ≡ get_or o.successors.items k q) where
+    (k : ℕ) (was : Ptr BasicBlock) (given : slice_get (successors_at d p) k ≡ Some was) (q : ℕ) (read : q ≡ get_or o.successors.items k 0) where
   edge-stood : slice_get o.successors.items k ≡ Some q
   edge-stood = successor-stood c p o here k q (subst (λ y. k < length (successors_at y p)) (sym view) (slice_get_within (successors_at d p) k was given)) read
 

@@ -12,7 +12,7 @@ loop-number-preserved c =
     let x : Site = get_or ds i (record { scope = 0; token = 0 }) in
     let here : slice_get ds i ≡ Some x = slice_get-get_or ds i _ c.loop-number-test.true in
     let now = c.loop-number.invariant in
-    rw c.in_ok-set.ensures (record {
+    rw c.in_ok-set.ensures.set (record {
       noted = λ apart. written_more (λ s k v. v ≡ k) ds i x here c.loop-number.places i refl apart (now.noted apart);
       kept = λ k none. get_or-set_other c.loop-number.places x.token k i 0 (λ e. none i x (omega arith) here (sym e)) ∙ now.kept k (λ j s lt. none j s (omega (arith, lt)));
       many = length-set c.loop-number.places x.token i ∙ now.many;

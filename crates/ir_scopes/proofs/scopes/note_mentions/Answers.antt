@@ -52,7 +52,7 @@ loop-site-preserved c =
     elim c.match-number_of.branch [
       | in-Some+in_ok-set-in-Some w ↦ (
           let means : Means names ds x w.in-Some.number = subst (λ o. MatchOption o (IsUnresolved names ds x) (Means names ds x)) w.in-Some.is told in
-          rw (more, w.places-is, w.in_ok-set-in-Some.ensures, w.lacking-is) (record {
+          rw (more, w.places-is, w.in_ok-set-in-Some.ensures.set, w.lacking-is) (record {
             lacking = lacking_kept names ds (take i ms) x w.in-Some.number c.loop-site.lacking means now.lacking;
             noted = written_more Suits ms i x here c.loop-site.places w.in-Some.number (λ j e. means) c.requires.apart.mentions now.noted;
             kept = λ k none. get_or-set_other c.loop-site.places x.token k _ 0 (λ e. none i x (omega arith) here (sym e)) ∙ now.kept k (λ j m lt. none j m (omega (arith, lt)));

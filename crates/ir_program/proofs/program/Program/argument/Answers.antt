@@ -1,10 +1,11 @@
+use Rattle.std.proofs.Common.{ap, get_or}
 use Rattle.ir_program.proofs.defined.Stands.{argument-read, argument-shown, argument-live}
 use Rattle.ir_program.proofs.program.Program.argument.Goals as goal
 
 pub returns-clause-typed : goal.returns-clause-typed
-returns-clause-typed g c = argument-live _ _ c.self.view_is c.self.invariant c.args.block c.args.index c.index-definition.result.now
-    (argument-read _ _ c.self.view_is c.args.block c.block.result.now c.block.ensures c.args.index c.requires.within c.index-definition.result.now c.index-definition.ensures) c.new.result c.new.ensures
+returns-clause-typed g c = argument-live _ _ c.self.view_is c.self.invariant c.args.block c.args.index (get_or c.deref.result.now c.args.index (record { number = 0; ty = record { number = 0 }; thread = 0 }))
+    (argument-read _ _ c.self.view_is c.args.block c.block.result.now c.block.ensures c.args.index c.requires.within (get_or c.deref.result.now c.args.index (record { number = 0; ty = record { number = 0 }; thread = 0 })) (record { number = 0; ty = record { number = 0 }; thread = 0 }) (ap (λ xs. get_or xs c.args.index (record { number = 0; ty = record { number = 0 }; thread = 0 })) c.deref.ensures)) c.new.result c.new.ensures
 
 pub returns-clause-value : goal.returns-clause-value
-returns-clause-value g c = argument-shown _ _ c.self.view_is c.args.block c.args.index c.index-definition.result.now
-    (argument-read _ _ c.self.view_is c.args.block c.block.result.now c.block.ensures c.args.index c.requires.within c.index-definition.result.now c.index-definition.ensures) c.new.result c.new.ensures
+returns-clause-value g c = argument-shown _ _ c.self.view_is c.args.block c.args.index (get_or c.deref.result.now c.args.index (record { number = 0; ty = record { number = 0 }; thread = 0 }))
+    (argument-read _ _ c.self.view_is c.args.block c.block.result.now c.block.ensures c.args.index c.requires.within (get_or c.deref.result.now c.args.index (record { number = 0; ty = record { number = 0 }; thread = 0 })) (record { number = 0; ty = record { number = 0 }; thread = 0 }) (ap (λ xs. get_or xs c.args.index (record { number = 0; ty = record { number = 0 }; thread = 0 })) c.deref.ensures)) c.new.result c.new.ensures
