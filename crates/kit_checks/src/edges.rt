@@ -1,5 +1,5 @@
 //! The edges of operations: where they lead, and what is handed on along them.
-ghost use Rattle.std.specs.Prelude.{◌≡◌, ◌↔◌, ◌+◌, ◌≤◌, IsSome, IsTrue, length, min, slice_index};
+ghost use Rattle.std.specs.Prelude.{◌≡◌, ◌↔◌, ◌+◌, ◌≤◌, ◌<◌, ◌^◌, IsSome, IsTrue, length, min, slice_index};
 ghost use Rattle.ir_program.specs.Lists.{StandsInRegion};
 ghost use Rattle.ir_program.specs.Program.{block_at, operation_at};
 ghost use Rattle.ir_program.specs.Rows.{operands_at, successors_at};
@@ -79,6 +79,7 @@ fn fit_arguments(
 ) -> bool
     requires block { IsSome (block_at ctx.now.program block) }
     requires within { first + count ≤ length (operands_at ctx.now.program op) }
+    requires few { first + count < 2 ^ 64 }
     ensures { IsTrue result ↔ RunFits (world_of ctx.now) ctx.now.program op first count block }
 {
     if argument_count(ctx, block) != count {
