@@ -1,0 +1,9 @@
+pub mod Sequences
+pub mod Trees
+pub mod Ordered
+pub mod Progress
+pub mod Reversed
+pub mod Measure
+pub mod Walked
+pub mod Holders
+pub mod Nodes
