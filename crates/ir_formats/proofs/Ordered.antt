@@ -5,7 +5,7 @@ use Rattle.std.specs.Bool.{MatchBool}
 use Rattle.std.proofs.lemmas.Bool.{eqb-true}
 use Rattle.std.proofs.lemmas.List.{append_assoc}
 use Rattle.ir_grammar.specs.declared.grammar.Action.{Action}
-use Rattle.ir_grammar.specs.declared.grammar.Action.TheVariants.{Result, Argument, Operand}
+use Rattle.ir_grammar.specs.declared.grammar.Action.TheVariants.{Result, Argument, Label, Operand}
 use Rattle.ir_grammar.specs.declared.grammar.Symbol.{Symbol}
 use Rattle.ir_grammar.specs.declared.grammar.Symbol.TheVariants.{Sign, Part, Act}
 use Rattle.ir_grammar.specs.declared.grammar.Event.{Event}
@@ -17,7 +17,7 @@ use Rattle.ir_grammar.specs.declared.grammar.Stop.{Stop}
 use Rattle.ir_grammar.specs.declared.grammar.Stop.TheVariants.{Text, Stuck, Deep}
 use Rattle.ir_grammar.specs.Reading.{through, Reads}
 use Rattle.ir_formats.specs.Rules.{plain_rule, plain_rules}
-use Rattle.ir_grammar.specs.Nesting.{names_value, OwnTokens, Position, at_root, behind_root_results, at_end, in_operation, in_operands, in_region, in_header, in_argument, in_block, behind_results, in_type, in_attribute, in_list, in_item, Move, goes_to, goes_in, goes_out, nowhere, move, Nests, NestsBy, has_own_token, FollowTokens}
+use Rattle.ir_grammar.specs.Nesting.{names_value_or_block, OwnTokens, Position, at_root, behind_root_results, at_end, in_operation, in_operands, in_region, in_header, in_argument, in_block, behind_results, in_type, in_attribute, in_list, in_item, Move, goes_to, goes_in, goes_out, nowhere, move, Nests, NestsBy, has_own_token, FollowTokens}
 use Rattle.ir_formats.specs.Ordered.{Standing, alone, moved_out, moved_by, moved, passed, passed_all, number_of_position, is_same_position, PartPositions, led_from, placed, led, walked, walked_all, is_alone_at, is_alone, lead_so, follow_signs, is_rule_ordered, are_rules_ordered, is_ordered, LeadsToPosition, IsInOrder, OrdersTexts}
 use Rattle.ir_formats.proofs.Booleans.{both_hold}
 
@@ -275,18 +275,19 @@ follows_front (Did x ∷ a) b fresh h = go (has_own_token x) h (λ e. follows_fr
 pub front_in_order : (a b : List Event) → IsInOrder (a ++ b) → IsInOrder a
 front_in_order a b h = record { nests = nests_front a b at_root [] h.nests; follows = follows_front a b false h.follows }
 
--- ---- names of values
+-- ---- names of values and blocks
 
-names_own : (a : Action) → names_value a ≡ true → has_own_token a ≡ true
+names_own : (a : Action) → names_value_or_block a ≡ true → has_own_token a ≡ true
 names_own Result e = refl
 names_own Argument e = refl
+names_own Label e = refl
 names_own Operand e = refl
 names_own _ e = cc
 
 own_later : (es : List Event) (fresh more : Bool) → (fresh ≡ true → more ≡ true) → FollowTokens fresh es → OwnTokens more es
 own_later [] fresh more le h = tt
 own_later (Took ∷ es) fresh more le h = own_later es true true (λ e. e) h
-own_later (Did a ∷ es) fresh more le h = go (has_own_token a) (names_value a) (names_own a) h (λ next e. own_later es false next (λ w. let wrong : false ≡ true = w in cc) e)
+own_later (Did a ∷ es) fresh more le h = go (has_own_token a) (names_value_or_block a) (names_own a) h (λ next e. own_later es false next (λ w. let wrong : false ≡ true = w in cc) e)
   where
     go : (own names : Bool) → (names ≡ true → own ≡ true) → MatchBool own ((fresh ≡ true) × FollowTokens false es) (FollowTokens false es) → ((next : Bool) → FollowTokens false es → OwnTokens next es)
         → MatchBool names ((more ≡ true) × OwnTokens false es) (OwnTokens more es)
@@ -295,7 +296,7 @@ own_later (Did a ∷ es) fresh more le h = go (has_own_token a) (names_value a) 
     go false true i h again = let wrong = i refl in cc
     go false false i h again = again more h
 
--- each name of a value has a token of its own
+-- each name of a value or a block has a token of its own
 pub own_tokens : (es : List Event) → FollowTokens false es → OwnTokens false es
 own_tokens es h = own_later es false false (λ e. e) h
 

@@ -150,16 +150,17 @@ FollowTokens fresh (Did a ∷ es) = MatchBool (has_own_token a) ((fresh ≡ true
 
 -- ---- what events have of themselves
 
--- the action names a value
-abbrev pub names_value : Action → Bool
-names_value Result = true
-names_value Argument = true
-names_value Operand = true
-names_value _ = false
+-- the action names a value or a block
+abbrev pub names_value_or_block : Action → Bool
+names_value_or_block Result = true
+names_value_or_block Argument = true
+names_value_or_block Label = true
+names_value_or_block Operand = true
+names_value_or_block _ = false
 
--- Each name of a value has a token of its own: before each action that names one a token is taken, behind the one that names
--- the value before. At first one may be there, that names none yet.
+-- Each name of a value or a block has a token of its own: before each action that names one a token is taken, behind the one
+-- that names the one before. At first one may be there, that names none yet.
 abbrev pub OwnTokens : Bool → List Event → Type 0
 OwnTokens fresh [] = Unit {0}
 OwnTokens fresh (Took ∷ es) = OwnTokens true es
-OwnTokens fresh (Did a ∷ es) = MatchBool (names_value a) ((fresh ≡ true) × OwnTokens false es) (OwnTokens fresh es)
+OwnTokens fresh (Did a ∷ es) = MatchBool (names_value_or_block a) ((fresh ≡ true) × OwnTokens false es) (OwnTokens fresh es)

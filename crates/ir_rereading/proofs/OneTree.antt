@@ -20,7 +20,7 @@ use Rattle.ir_formats.specs.Words.{kind_of, token_text}
 use Rattle.ir_scopes.specs.declared.scopes.Resolution.{Resolution}
 use Rattle.ir_scopes.specs.declared.sites.Site.{Site}
 use Rattle.ir_scopes.specs.Depth.{IsTooDeep}
-use Rattle.ir_scopes.specs.Scopes.{definitions, mentions, Means, SitesAreApart, IsResolved}
+use Rattle.ir_scopes.specs.Scopes.{definitions, mentions, Means, IsResolved}
 use Rattle.ir_scopes.proofs.Depths.{deep_stays, deep_some}
 use Rattle.ir_forest.specs.Closed.{definitions_of}
 use Rattle.ir_forest.specs.Forest.{ActionSpan, IsForestOf}
@@ -31,7 +31,7 @@ use Rattle.ir_forest.specs.ValueFaults.{HasNamesFault}
 use Rattle.ir_forest.proofs.BuiltTrees.{forest_is_built}
 use Rattle.ir_rereading.specs.Texts.{IsReading, HasFault, Says}
 use Rattle.ir_rereading.proofs.TreeTexts.{value_spelled, spelled_alike, numbered_alike}
-use Rattle.ir_rereading.proofs.TreeTexts.{names_apart, definitions_within, mentions_within}
+use Rattle.ir_rereading.proofs.TreeTexts.{definitions_within, mentions_within}
 use Rattle.ir_rereading.proofs.trees.Closings.{mentions_end}
 use Rattle.ir_rereading.proofs.trees.TreeRenamed.{operands_of}
 use Rattle.ir_rereading.proofs.trees.TreeScopes.{definition_tokens, mention_tokens}
@@ -47,18 +47,15 @@ module _ (l : Language) (leads : ordered.PartPositions) (ok : is_ordered leads (
     (ts : List Token) (names numbers : List ℕ) (stop : Stop) (n : ℕ) (es : List Event)
     (reading : IsReading l cs ts names stop n es) (other : IsReading l cs ts numbers stop n es)
     (r q : Resolution) (resolved : IsResolved l.isolated names es r) (again : IsResolved l.isolated numbers es q) where
-  apart : SitesAreApart (definitions l.isolated es) (mentions l.isolated es)
-  apart = names_apart l cs ts names stop n es reading leads ok
-
   -- the number of its definition is the same for this token
   abbrev IsSame : ℕ → Type 0
   IsSame k = slice_index r.definitions k ≡ slice_index q.definitions k
 
   definition_same : (s : Site) → In s (definitions l.isolated es) → IsSame s.token
   definition_same s i =
-      resolved.1.defined apart i.0 s i.1
+      resolved.values.defined i.0 s i.1
       (definitions_within l cs ts names stop n es reading leads ok reading.numbered s i)
-      ∙ sym (again.1.defined apart i.0 s i.1
+      ∙ sym (again.values.defined i.0 s i.1
       (definitions_within l cs ts numbers stop n es other leads ok other.numbered s i))
 
   -- what a mention means it means under the other numbering too
@@ -73,10 +70,10 @@ module _ (l : Language) (leads : ordered.PartPositions) (ok : is_ordered leads (
   mention_same : Leads at_root [] es at_end [] → (m : Site) → In m (mentions l.isolated es) → IsSame m.token
   mention_same led m i =
       let c = mentions_end l.isolated es led i.0 m i.1 in
-      let j = resolved.1.resolved i.0 c.0 m c.1 i.1 c.2 c.3 in
-      resolved.1.mentioned apart i.0 j.0 m i.1 j.1
+      let j = resolved.values.resolved i.0 c.0 m c.1 i.1 c.2 c.3 in
+      resolved.values.mentioned i.0 j.0 m i.1 j.1
       (mentions_within l cs ts names stop n es reading leads ok reading.numbered m i)
-      ∙ sym (again.1.mentioned apart i.0 j.0 m i.1 (means_again m i j.0 j.1)
+      ∙ sym (again.values.mentioned i.0 j.0 m i.1 (means_again m i j.0 j.1)
       (mentions_within l cs ts numbers stop n es other leads ok other.numbered m i))
 
 -- ---- one reading

@@ -24,7 +24,7 @@ use Rattle.ir_rereading.specs.Printable.{is_printable}
 use Rattle.ir_forest.specs.Progress.{Leads}
 use Rattle.ir_grammar.specs.Reading.{Reads}
 use Rattle.ir_formats.specs.Rules.{words_of, rules_of, with_words, IsGrammarOf}
-use Rattle.ir_scopes.specs.Scopes.{definitions, mentions, labels, closings, SitesAreApart, Means, Resolves, IsAgain, IsUnresolvedName}
+use Rattle.ir_scopes.specs.Scopes.{definitions, mentions, labels, closings, label_mentions, label_closings, value_names, label_names, Means, Resolves, IsAgain, IsUnresolvedName}
 use Rattle.ir_rereading.specs.Texts.{IsReading, HasFault, Says}
 use Rattle.ir_formats.specs.Words.{token_text, text_of, kind_of, name_number, spelled_texts, AlikeInNumber}
 use Rattle.ir_forest.specs.Language.{Language}
@@ -46,6 +46,7 @@ use Rattle.ir_rereading.proofs.verdicts.TextReadings.{orders, leads_along, read_
 use Rattle.ir_rereading.proofs.trees.TreeAgain.{tree_again}
 use Rattle.ir_rereading.proofs.trees.TreeClosed.{closed_renamed}
 use Rattle.ir_rereading.proofs.trees.TreeLabels.{labels_apart, labelled_renamed}
+use Rattle.ir_rereading.proofs.trees.LabelTokens.{no_label_mentions}
 use Rattle.ir_rereading.proofs.trees.TreeNumbers.{resolution}
 use Rattle.ir_rereading.proofs.trees.TreeScopes.{definition_tokens, mention_tokens}
 use Rattle.ir_rereading.proofs.TreeTexts.{value_spelled, label_spelled, spelled_alike, names_apart, definitions_within, mentions_within, text_none_again, text_none_lacking, text_means}
@@ -206,6 +207,9 @@ module _ (l : Language) (lead : ordered.PartPositions) (ok : is_ordered lead (ru
   no_label_again = labels_apart l.isolated l.values text numbers es forest tree (read_in_order l lead ok cs ts numbers n es stops.Text reading).nests built.2 built.3
       (λ i j s u at to e. spelled_alike l cs ts numbers stops.Text n es reading s.token u.token (label_spelled l cs ts numbers stops.Text n es reading s (i, at)) (label_spelled l cs ts numbers stops.Text n es reading u (j, to)) e) labelled_read
 
+  no_label_lacking : (f : Fault) → IsUnresolvedName numbers (labels l.isolated es) (label_mentions l.isolated es) (label_closings l.isolated es) f → ⊥
+  no_label_lacking f h = let lacks = h.3 in no_label_mentions l.isolated es lacks.0 lacks.1 lacks.2
+
   as_many : n ≡ length ts
   as_many =
       let a = length-map (tokens ms) (kind_by ws) in
@@ -218,24 +222,23 @@ module _ (l : Language) (lead : ordered.PartPositions) (ok : is_ordered lead (ru
   none f (inr (inl h)) = no_numbers f h
   none f (inr (inr (inl h))) = no_names f h
   none f (inr (inr (inr (inl h)))) = low.0 f h
-  none f (inr (inr (inr (inr (inl h))))) = no_again f h
+  none f (inr (inr (inr (inr (inl (inl h)))))) = no_again f h
+  none f (inr (inr (inr (inr (inl (inr h)))))) = no_lacking f h
   none f (inr (inr (inr (inr (inr (inl h)))))) = no_label_again f h
-  none f (inr (inr (inr (inr (inr (inr h)))))) = no_lacking f h
+  none f (inr (inr (inr (inr (inr (inr h)))))) = no_label_lacking f h
 
   -- the text says a tree that is the same but for its labels
   pub read_again : length cs < 2 ^ 63 → (again : Entity ℕ) × Says l cs again × IsSameModule again t
   read_again few = (
     renamed (slice_index found.0.definitions) tree,
-    (ts, numbers, stops.Text, n, es, forest, tree, found.0, reading, none, built.2, built.3, ((λ f h. none f (inr (inr (inr (inr h))))), found.1), refl),
+    (ts, numbers, stops.Text, n, es, forest, tree, found.0, reading, none, built.2, built.3, record { faultless = λ f h. none f (inr (inr (inr (inr h)))); values = found.1; labels = found.2 }, refl),
     tree_again l.isolated l.values numbers (definitions l.isolated es) (mentions l.isolated es) (closings l.isolated es) found.0 text ν tree t (ap unlabelled built.4 ∙ same)
         closed.operation numbered closed.scoped distinct_read (definition_tokens l.isolated l.values text es forest tree built.2 built.3 leads no_names)
-        (mention_tokens l.isolated l.values text es forest tree built.2 built.3 leads no_names) found.1 apart (λ m i. means i.0 m i.1)
+        (mention_tokens l.isolated l.values text es forest tree built.2 built.3 leads no_names) found.1 (λ m i. means i.0 m i.1)
         (definitions_within l cs ts numbers stops.Text n es reading lead ok reading.numbered) (mentions_within l cs ts numbers stops.Text n es reading lead ok reading.numbered)
         (λ s m i j e. spelled_alike l cs ts numbers stops.Text n es reading s.token m.token (value_spelled l cs ts numbers stops.Text n es reading s.token (s, inl i, refl)) (value_spelled l cs ts numbers stops.Text n es reading m.token (m, inr j, refl)) e),
   )
     where
-      apart : SitesAreApart (definitions l.isolated es) (mentions l.isolated es)
-      apart = names_apart l cs ts numbers stops.Text n es reading lead ok
-
-      found : (r : Resolution) × Resolves numbers (definitions l.isolated es) (mentions l.isolated es) (closings l.isolated es) r
-      found = resolution numbers (definitions l.isolated es) (mentions l.isolated es) means (closings l.isolated es) no_again
+      found : (r : Resolution) × Resolves numbers (value_names l.isolated es) r.definitions r.count × Resolves numbers (label_names l.isolated es) r.definitions r.labels
+      found = resolution numbers (value_names l.isolated es) (label_names l.isolated es) means (λ i m at. absurd (no_label_mentions l.isolated es i m at))
+          (names_apart l cs ts numbers stops.Text n es reading lead ok) no_again no_label_again

@@ -19,7 +19,7 @@ use Rattle.ir_formats.specs.Ordered as ordered
 use Rattle.ir_formats.specs.Ordered.{is_ordered}
 use Rattle.ir_forest.specs.Progress.{Leads}
 use Rattle.ir_formats.specs.Rules.{rules_of}
-use Rattle.ir_scopes.specs.Scopes.{beginning, definitions, labels, mentions, closings, defined, labelled, mentioned, name_of, Means, IsAgain, IsUnresolvedName, SitesAreApart, IsResolved}
+use Rattle.ir_scopes.specs.Scopes.{beginning, definitions, labels, mentions, closings, defined, labelled, mentioned, name_of, Means, IsAgain, IsUnresolvedName, NamesAreApart, value_names, label_names, IsResolved}
 use Rattle.ir_rereading.specs.Texts.{IsReading, HasFault}
 use Rattle.ir_formats.specs.Words.{token_text, text_of}
 use Rattle.ir_forest.specs.Language.{Language}
@@ -53,8 +53,8 @@ module _ (l : Language) (cs : List ℕ) (ts : List Token) (names : List ℕ) (st
       (reading.alike j k s t at there a b).1 (sym (ap (λ (x : Option Token). option_map_or (text_of cs) x []) at) ∙ (e ∙ ap (λ (x : Option Token). option_map_or (text_of cs) x []) there))
 
   module _ (leads : ordered.PartPositions) (ok : is_ordered leads (rules_of l.formats) ≡ true) where
-    -- names of values have tokens of their own
-    pub names_apart : SitesAreApart (definitions l.isolated es) (mentions l.isolated es)
+    -- names of values and blocks have tokens of their own
+    pub names_apart : NamesAreApart (value_names l.isolated es) (label_names l.isolated es)
     names_apart = are_apart l.isolated es (own_tokens es (read_in_order l leads ok cs ts names n es stop reading).follows)
 
     module _ (enough : length ts ≤ length names) where
@@ -76,8 +76,8 @@ module _ (l : Language) (cs : List ℕ) (ts : List Token) (names : List ℕ) (st
       text_scoped none forest tree r read says resolved =
           let led = read_whole l leads ok cs ts names n es stop reading none in
           let named : (f : Fault) → HasNamesFault l.values (token_text cs ts) es f → ⊥ = λ f h. none f (inr (inr (inl h))) in (
-            numbers_scoped l.isolated l.values (token_text cs ts) es forest tree read says led named names r resolved names_apart definitions_within mentions_within,
-            numbers_numbered l.isolated l.values (token_text cs ts) es forest tree read says led named names r resolved names_apart definitions_within mentions_within,
+            numbers_scoped l.isolated l.values (token_text cs ts) es forest tree read says led named names r resolved definitions_within mentions_within,
+            numbers_numbered l.isolated l.values (token_text cs ts) es forest tree read says led named names r resolved definitions_within mentions_within,
           )
 
   -- ---- from the tree of a text to its names

@@ -1,5 +1,8 @@
 pub mod DefinedTokens
 pub mod Closings
+pub mod LabelTokens
+pub mod LabelTexts
+pub mod LabelNumbers
 pub mod TreePlaces
 pub mod TreeCounts
 pub mod TreeSites

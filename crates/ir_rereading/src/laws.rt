@@ -22,7 +22,7 @@ ghost use Rattle.ir_grammar.specs.Nesting.{at_root, at_end, FollowTokens, OwnTok
 ghost use Rattle.ir_formats.specs.Ordered.{PartPositions, is_ordered, IsInOrder, LeadsToPosition, OrdersTexts};
 ghost use Rattle.ir_forest.specs.Identifiers.{AreSpelt};
 ghost use Rattle.ir_formats.specs.Words.{token_text};
-ghost use Rattle.ir_scopes.specs.Scopes.{HasScopeFault, SitesAreApart, definitions, mentions};
+ghost use Rattle.ir_scopes.specs.Scopes.{HasScopeFault, NamesAreApart, value_names, label_names};
 ghost use Rattle.ir_forest.specs.Closed.{IsClosedTree, IsNumbered, IsSameModule};
 ghost use Rattle.ir_rereading.specs.Printable.{CanPrint, IsLayoutOf};
 
@@ -37,10 +37,10 @@ pub fn one_reading()
         → IsTextOf g root ts es → IsTextOf g root ts fs → es ≡ fs }
 {}
 
-/// Where each name of a value has a token of its own, no two names of values have one token.
+/// Where each name of a value or a block has a token of its own, no two of these names have one token.
 pub fn names_are_apart()
     ensures { (isolated : ℕ → Bool) (es : List Event) → OwnTokens false es
-        → SitesAreApart (definitions isolated es) (mentions isolated es) }
+        → NamesAreApart (value_names isolated es) (label_names isolated es) }
 {}
 
 /// A fault of names of a front stays one of all that begins with it, and what more there is has its faults later.
@@ -84,7 +84,7 @@ pub fn fronts_are_ordered()
     ensures { (es more : List Event) → IsInOrder (es ++ more) → IsInOrder es }
 {}
 
-/// Where actions come straight behind their tokens, each name of a value has a token of its own.
+/// Where actions come straight behind their tokens, each name of a value or a block has a token of its own.
 pub fn names_have_tokens()
     ensures { (es : List Event) → FollowTokens false es → OwnTokens false es }
 {}

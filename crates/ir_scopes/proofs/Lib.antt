@@ -1,6 +1,7 @@
 pub mod Depths
 pub mod Lacking
 pub mod Marks
+pub mod NamesAlike
 pub mod Places
 pub mod Resolving
 pub mod ListEnds

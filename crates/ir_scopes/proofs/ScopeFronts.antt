@@ -10,9 +10,10 @@ use Rattle.ir_scopes.specs.declared.sites.Closing.{Closing}
 use Rattle.ir_scopes.specs.declared.sites.Frame.{Frame}
 use Rattle.ir_scopes.specs.declared.sites.Site.{Site}
 use Rattle.ir_grammar.specs.Reading.{tooks}
-use Rattle.ir_scopes.specs.Scopes.{EventPlace, beginning, behind, last_token, rest, here_behind_operation, here_behind_region, defined, labelled, mentioned, closed, ended, each, definitions, labels, mentions, closings, IsAgain, IsUnresolvedName, HasScopeFault}
+use Rattle.ir_scopes.specs.Scopes.{EventPlace, beginning, behind, last_token, outside, operation_frame, region_frame, rest, here_behind_operation, here_behind_region, may_end, defined, mentioned, labelled, label_mentioned, ended, each, Names, IsAgain, IsUnresolvedName, HasNameFault, HasScopeFault}
 use Rattle.ir_scopes.proofs.ListEnds.{get_more}
 use Rattle.ir_scopes.proofs.Apart.{get_append}
+use Rattle.ir_scopes.proofs.Walks.{these, same_names}
 
 none : {X : Type 0} {A : Type 0} (s : X) → None ≡ Some s → A
 none s h = cc
@@ -23,145 +24,127 @@ one x s (suc i) h = none s h
 
 -- ---- what one event makes, by its place
 
-defined_at : (at : EventPlace) (e : Event) (i : ℕ) (s : Site) → slice_get (defined at e) i ≡ Some s → (s.scope ≡ at.here.values) × (s.token ≡ last_token at)
+-- what an event makes is in the scope of its place, at the last token
+abbrev pub IsMadeHere : (Frame → ℕ) → (EventPlace → Event → List Site) → Type 0
+IsMadeHere scope f = (at : EventPlace) (e : Event) (i : ℕ) (s : Site) → slice_get (f at e) i ≡ Some s → (s.scope ≡ scope at.here) × (s.token ≡ last_token at)
+
+defined_at : IsMadeHere (λ f. f.values) defined
 defined_at at Took i s h = none s h
 defined_at at (Did Result) i s h = let o = sym (one _ s i h) in (ap (λ x. x.scope) o, ap (λ x. x.token) o)
 defined_at at (Did Argument) i s h = let o = sym (one _ s i h) in (ap (λ x. x.scope) o, ap (λ x. x.token) o)
 defined_at at (Did _) i s h = none s h
 
-mentioned_at : (at : EventPlace) (e : Event) (i : ℕ) (s : Site) → slice_get (mentioned at e) i ≡ Some s → (s.scope ≡ at.here.values) × (s.token ≡ last_token at)
+pub mentioned_at : IsMadeHere (λ f. f.values) mentioned
 mentioned_at at Took i s h = none s h
 mentioned_at at (Did Operand) i s h = let o = sym (one _ s i h) in (ap (λ x. x.scope) o, ap (λ x. x.token) o)
 mentioned_at at (Did _) i s h = none s h
 
-labelled_at : (at : EventPlace) (e : Event) (i : ℕ) (s : Site) → slice_get (labelled at e) i ≡ Some s → s.token ≡ last_token at
+labelled_at : IsMadeHere (λ f. f.labels) labelled
 labelled_at at Took i s h = none s h
-labelled_at at (Did Label) i s h = let o = sym (one _ s i h) in ap (λ x. x.token) o
+labelled_at at (Did Label) i s h = let o = sym (one _ s i h) in (ap (λ x. x.scope) o, ap (λ x. x.token) o)
 labelled_at at (Did _) i s h = none s h
 
-ended_at : (met : ℕ) (before after : Frame) (i : ℕ) (c : Closing) → slice_get (ended met before after) i ≡ Some c
-    → (c.scope ≡ before.values) × (c.met ≡ met) × (after.values ≡ before.values → ⊥)
-ended_at met before after i c h = go (nat_eq after.values before.values) refl h
+pub label_mentioned_at : IsMadeHere (λ f. f.labels) label_mentioned
+label_mentioned_at at e i s h = none s h
+
+ended_at : (x : Closing) (next i : ℕ) (c : Closing) → slice_get (ended x next) i ≡ Some c → (c ≡ x) × (next ≡ x.scope → ⊥)
+ended_at x next i c h = go (nat_eq next x.scope) refl h
   where
-    go : (b : Bool) → nat_eq after.values before.values ≡ b → slice_get (cond b [] (record { scope = before.values; met = met; place = before.opened } ∷ [])) i ≡ Some c
-        → (c.scope ≡ before.values) × (c.met ≡ met) × (after.values ≡ before.values → ⊥)
+    go : (b : Bool) → nat_eq next x.scope ≡ b → slice_get (cond b [] (x ∷ [])) i ≡ Some c → (c ≡ x) × (next ≡ x.scope → ⊥)
     go true e k = none c k
-    go false e k = let o = sym (one _ c i k) in (ap (λ x. x.scope) o, ap (λ x. x.met) o, λ same. (let wrong : true ≡ false = sym (eq-eqb after.values before.values same) ∙ e in cc))
+    go false e k = (sym (one _ c i k), λ same. (let wrong : true ≡ false = sym (eq-eqb next x.scope same) ∙ e in cc))
+
+-- ---- the scopes of one sort of names
+
+-- This part of a frame is a scope. Outside of all operations it is given by the number of events; an operation stays in that
+-- around it; a region opens one or stays in that around it.
+pub record IsScopePart (scope : Frame → ℕ) : Type 0 where
+  pub outside : (n : ℕ) → scope (outside n) ≡ n
+  pub operation : (b : Bool) (f : Frame) → scope (operation_frame b f) ≡ scope f
+  pub region : (at : EventPlace) → (scope (region_frame at) ≡ at.events + 1) ⊎ (scope (region_frame at) ≡ scope at.here)
+
+pub values_part : IsScopePart (λ f. f.values)
+values_part = record { outside = λ n. refl; operation = λ b f. refl; region = λ at. opens at.here.isolated (at.events + 1) at.here.values }
+  where
+    opens : (b : Bool) (x y : ℕ) → (cond b x y ≡ x) ⊎ (cond b x y ≡ y)
+    opens true x y = inl refl
+    opens false x y = inr refl
+
+pub labels_part : IsScopePart (λ f. f.labels)
+labels_part = record { outside = λ n. refl; operation = λ b f. refl; region = λ at. inl refl }
 
 -- ---- scopes that have ended
 
--- none of these frames stands in the scope
-abbrev NoneIn : ℕ → List Frame → Type 0
-NoneIn s [] = Unit {0}
-NoneIn s (f ∷ fs) = (f.values ≡ s → ⊥) × NoneIn s fs
+module _ (scope : Frame → ℕ) where
+  -- none of these frames is in the scope
+  abbrev NoneIn : ℕ → List Frame → Type 0
+  NoneIn s [] = Unit {0}
+  NoneIn s (f ∷ fs) = (scope f ≡ s → ⊥) × NoneIn s fs
 
--- the scope has begun, and nothing that is open stands in it
-record IsPast (s : ℕ) (at : EventPlace) : Type 0 where
-  old : s ≤ at.events
-  here : at.here.values ≡ s → ⊥
-  around : NoneIn s at.around
+  -- the scope has begun, and nothing that is open is in it
+  record IsPast (s : ℕ) (at : EventPlace) : Type 0 where
+    old : s ≤ at.events
+    here : scope at.here ≡ s → ⊥
+    around : NoneIn s at.around
 
--- the values of these frames are in the same scope or ones begun earlier, from this one on
-abbrev pub Descends : ℕ → List Frame → Type 0
-Descends n [] = Unit {0}
-Descends n (f ∷ fs) = (f.values ≤ n) × Descends f.values fs
+  -- these frames are in the same scope or in ones begun earlier, from this one on
+  abbrev pub Descends : ℕ → List Frame → Type 0
+  Descends n [] = Unit {0}
+  Descends n (f ∷ fs) = (scope f ≤ n) × Descends (scope f) fs
 
-pub record IsOrdered (at : EventPlace) : Type 0 where
-  pub here : at.here.values ≤ at.events
-  pub around : Descends at.here.values at.around
+  pub record IsOrdered (at : EventPlace) : Type 0 where
+    pub here : scope at.here ≤ at.events
+    pub around : Descends (scope at.here) at.around
 
-descends_more : (n m : ℕ) (fs : List Frame) → n ≤ m → Descends n fs → Descends m fs
-descends_more n m [] le h = tt
-descends_more n m (f ∷ fs) le h = (omega (arith, h.0), h.1)
+  none_below : (s n : ℕ) (fs : List Frame) → n < s → Descends n fs → NoneIn s fs
+  none_below s n [] lt h = tt
+  none_below s n (f ∷ fs) lt h = (λ e. omega (arith, h.0), none_below s (scope f) fs (omega (arith, h.0)) h.1)
 
-none_below : (s n : ℕ) (fs : List Frame) → n < s → Descends n fs → NoneIn s fs
-none_below s n [] lt h = tt
-none_below s n (f ∷ fs) lt h = (λ e. omega (arith, h.0), none_below s f.values fs (omega (arith, h.0)) h.1)
-
-module _ (isolated : ℕ → Bool) where
-  pub ordered_next : (at : EventPlace) (e : Event) → IsOrdered at → IsOrdered (behind isolated at e)
+module _ (scope : Frame → ℕ) (part : IsScopePart scope) (isolated : ℕ → Bool) where
+  pub ordered_next : (at : EventPlace) (e : Event) → IsOrdered scope at → IsOrdered scope (behind isolated at e)
   ordered_next at Took o = record { here = let h = o.here in omega arith; around = o.around }
-  ordered_next at (Did (Operation n)) o = record { here = let h = o.here in omega arith; around = (omega arith, o.around) }
+  ordered_next at (Did (Operation n)) o =
+      let same = part.operation (isolated n) at.here in record { here = let h = o.here in omega (arith, same); around = (omega (arith, same), o.around) }
   ordered_next at (Did EndOperation) o = go at.around o.around
     where
-      go : (fs : List Frame) → Descends at.here.values fs → IsOrdered (record { events = at.events + 1; tokens = at.tokens; here = here_behind_operation at.events fs; around = rest fs })
-      go [] d = record { here = omega arith; around = tt }
-      go (f ∷ []) d = record { here = omega arith; around = tt }
+      go : (fs : List Frame) → Descends scope (scope at.here) fs → IsOrdered scope (record { events = at.events + 1; tokens = at.tokens; here = here_behind_operation at.events fs; around = rest fs })
+      go [] d = record { here = omega (arith, part.outside (at.events + 1)); around = tt }
+      go (f ∷ []) d = record { here = omega (arith, part.outside (at.events + 1)); around = tt }
       go (f ∷ g ∷ fs) d = record { here = let h = o.here in omega (arith, d.0); around = d.1 }
-  ordered_next at (Did BeginRegion) o = go at.here.isolated
-    where
-      go : (b : Bool) → IsOrdered (record {
-        events = at.events + 1;
-        tokens = at.tokens;
-        around = at.here ∷ at.around;
-        here = record {
-          isolated = false;
-          labels = at.events + 1;
-          values = cond b (at.events + 1) at.here.values;
-          opened = cond b (last_token at) at.here.opened;
-        };
-      })
-      go true = record { here = omega arith; around = (let h = o.here in omega arith, o.around) }
-      go false = record { here = let h = o.here in omega arith; around = (omega arith, o.around) }
+  ordered_next at (Did BeginRegion) o = elim (part.region at) [
+    | inl e ↦ record { here = omega (arith, e); around = (let h = o.here in omega (arith, e), o.around) }
+    | inr e ↦ record { here = let h = o.here in omega (arith, e); around = (omega (arith, e), o.around) }
+  ]
   ordered_next at (Did EndRegion) o = go at.around o.around
     where
-      go : (fs : List Frame) → Descends at.here.values fs → IsOrdered (record { events = at.events + 1; tokens = at.tokens; here = here_behind_region at.here fs; around = rest fs })
+      go : (fs : List Frame) → Descends scope (scope at.here) fs → IsOrdered scope (record { events = at.events + 1; tokens = at.tokens; here = here_behind_region at.here fs; around = rest fs })
       go [] d = record { here = let h = o.here in omega arith; around = tt }
       go (f ∷ fs) d = record { here = let h = o.here in omega (arith, d.0); around = d.1 }
   ordered_next at (Did _) o = record { here = let h = o.here in omega arith; around = o.around }
 
-  past_next : (s : ℕ) (at : EventPlace) (e : Event) → IsPast s at → IsPast s (behind isolated at e)
+  past_next : (s : ℕ) (at : EventPlace) (e : Event) → IsPast scope s at → IsPast scope s (behind isolated at e)
   past_next s at Took p = record { old = let h = p.old in omega arith; here = p.here; around = p.around }
-  past_next s at (Did (Operation n)) p = record { old = let h = p.old in omega arith; here = p.here; around = (p.here, p.around) }
+  past_next s at (Did (Operation n)) p = record { old = let h = p.old in omega arith; here = λ e. p.here (sym (part.operation (isolated n) at.here) ∙ e); around = (p.here, p.around) }
   past_next s at (Did EndOperation) p = go at.around p.around
     where
-      go : (fs : List Frame) → NoneIn s fs → IsPast s (record { events = at.events + 1; tokens = at.tokens; here = here_behind_operation at.events fs; around = rest fs })
-      go [] d = record { old = let h = p.old in omega arith; here = λ e. (let h = p.old in omega arith); around = tt }
-      go (f ∷ []) d = record { old = let h = p.old in omega arith; here = λ e. (let h = p.old in omega arith); around = tt }
+      fresh : scope (outside (at.events + 1)) ≡ s → ⊥
+      fresh e = let h = p.old in omega (arith, e, part.outside (at.events + 1))
+
+      go : (fs : List Frame) → NoneIn scope s fs → IsPast scope s (record { events = at.events + 1; tokens = at.tokens; here = here_behind_operation at.events fs; around = rest fs })
+      go [] d = record { old = let h = p.old in omega arith; here = fresh; around = tt }
+      go (f ∷ []) d = record { old = let h = p.old in omega arith; here = fresh; around = tt }
       go (f ∷ g ∷ fs) d = record { old = let h = p.old in omega arith; here = d.0; around = d.1 }
-  past_next s at (Did BeginRegion) p = go at.here.isolated
+  past_next s at (Did BeginRegion) p = record { old = let h = p.old in omega arith; here = apart (part.region at); around = (p.here, p.around) }
     where
-      go : (b : Bool) → IsPast s (record {
-        events = at.events + 1;
-        tokens = at.tokens;
-        around = at.here ∷ at.around;
-        here = record {
-          isolated = false;
-          labels = at.events + 1;
-          values = cond b (at.events + 1) at.here.values;
-          opened = cond b (last_token at) at.here.opened;
-        };
-      })
-      go true = record { old = let h = p.old in omega arith; here = λ e. (let h = p.old in omega arith); around = (p.here, p.around) }
-      go false = record { old = let h = p.old in omega arith; here = p.here; around = (p.here, p.around) }
+      apart : (scope (region_frame at) ≡ at.events + 1) ⊎ (scope (region_frame at) ≡ scope at.here) → scope (region_frame at) ≡ s → ⊥
+      apart (inl new) e = let h = p.old in omega (arith, e, new)
+      apart (inr same) e = p.here (sym same ∙ e)
   past_next s at (Did EndRegion) p = go at.around p.around
     where
-      go : (fs : List Frame) → NoneIn s fs → IsPast s (record { events = at.events + 1; tokens = at.tokens; here = here_behind_region at.here fs; around = rest fs })
+      go : (fs : List Frame) → NoneIn scope s fs → IsPast scope s (record { events = at.events + 1; tokens = at.tokens; here = here_behind_region at.here fs; around = rest fs })
       go [] d = record { old = let h = p.old in omega arith; here = p.here; around = tt }
       go (f ∷ fs) d = record { old = let h = p.old in omega arith; here = d.0; around = d.1 }
   past_next s at (Did _) p = record { old = let h = p.old in omega arith; here = p.here; around = p.around }
-
-  -- the scope that an event ends has ended behind it
-  closed_past : (at : EventPlace) (e : Event) → IsOrdered at → (i : ℕ) (c : Closing) → slice_get (closed isolated at e) i ≡ Some c → (c.met ≡ last_token at) × IsPast c.scope (behind isolated at e)
-  closed_past at Took o i c h = none c h
-  closed_past at (Did EndOperation) o i c h = go at.around o.around (ended_at (last_token at) at.here (here_behind_operation at.events at.around) i c h)
-    where
-      go : (fs : List Frame) → Descends at.here.values fs → (c.scope ≡ at.here.values) × (c.met ≡ last_token at) × ((here_behind_operation at.events fs).values ≡ at.here.values → ⊥)
-          → (c.met ≡ last_token at) × IsPast c.scope (record { events = at.events + 1; tokens = at.tokens; here = here_behind_operation at.events fs; around = rest fs })
-      go [] d k = (k.1, record { old = let h = o.here in omega (arith, k.0); here = λ e. k.2 (e ∙ k.0); around = tt })
-      go (f ∷ []) d k = (k.1, record { old = let h = o.here in omega (arith, k.0); here = λ e. k.2 (e ∙ k.0); around = tt })
-      go (f ∷ g ∷ fs) d k =
-          let less : f.values < c.scope = omega (arith, d.0, k.0, k.2) in
-          (k.1, record { old = let h = o.here in omega (arith, k.0); here = λ e. k.2 (e ∙ k.0); around = none_below c.scope f.values (g ∷ fs) less d.1 })
-  closed_past at (Did EndRegion) o i c h = go at.around o.around (ended_at (last_token at) at.here (here_behind_region at.here at.around) i c h)
-    where
-      go : (fs : List Frame) → Descends at.here.values fs → (c.scope ≡ at.here.values) × (c.met ≡ last_token at) × ((here_behind_region at.here fs).values ≡ at.here.values → ⊥)
-          → (c.met ≡ last_token at) × IsPast c.scope (record { events = at.events + 1; tokens = at.tokens; here = here_behind_region at.here fs; around = rest fs })
-      go [] d k = absurd (k.2 refl)
-      go (f ∷ fs) d k =
-          let less : f.values < c.scope = omega (arith, d.0, k.0, k.2) in
-          (k.1, record { old = let h = o.here in omega (arith, k.0); here = λ e. k.2 (e ∙ k.0); around = none_below c.scope f.values fs less d.1 })
-  closed_past at (Did _) o i c h = none c h
 
   -- ---- one list of events behind another
 
@@ -185,7 +168,7 @@ module _ (isolated : ℕ → Bool) where
   tokens_next at Took = omega arith
   tokens_next at (Did a) = omega arith
 
-  -- what is made from a place on stands at its last token or later
+  -- what is made from a place on is at its last token or later
   each_from : {A : Type 0} (f : EventPlace → Event → List A) (token : A → ℕ) → ((at : EventPlace) (e : Event) (i : ℕ) (x : A) → slice_get (f at e) i ≡ Some x → token x ≡ last_token at)
       → (at : EventPlace) (es : List Event) (i : ℕ) (x : A) → slice_get (each isolated f at es) i ≡ Some x → at.tokens ≤ token x + 1
   each_from f token here at [] i x h = none x h
@@ -194,34 +177,69 @@ module _ (isolated : ℕ → Bool) where
     | inr y ↦ omega (arith, each_from f token here (behind isolated at e) es y.0 x y.2, tokens_next at e)
   ]
 
-  past_all : (s : ℕ) (at : EventPlace) (es : List Event) → IsPast s at → IsPast s (arrived at es)
+  past_all : (s : ℕ) (at : EventPlace) (es : List Event) → IsPast scope s at → IsPast scope s (arrived at es)
   unfolding arrived
   past_all s at [] p = p
   past_all s at (e ∷ es) p = past_all s (behind isolated at e) es (past_next s at e p)
 
   -- nothing is made in a scope that has ended
-  none_past : (f : EventPlace → Event → List Site) → ((at : EventPlace) (e : Event) (i : ℕ) (x : Site) → slice_get (f at e) i ≡ Some x → x.scope ≡ at.here.values)
-      → (s : ℕ) (at : EventPlace) (es : List Event) → IsPast s at → (i : ℕ) (x : Site) → slice_get (each isolated f at es) i ≡ Some x → x.scope ≡ s → ⊥
+  none_past : (f : EventPlace → Event → List Site) → IsMadeHere scope f
+      → (s : ℕ) (at : EventPlace) (es : List Event) → IsPast scope s at → (i : ℕ) (x : Site) → slice_get (each isolated f at es) i ≡ Some x → x.scope ≡ s → ⊥
   none_past f here s at [] p i x h is = none x h
   none_past f here s at (e ∷ es) p i x h is = elim (get_append (f at e) (each isolated f (behind isolated at e) es) i x h) [
-    | inl y ↦ p.here (sym (here at e i x y) ∙ is)
+    | inl y ↦ p.here (sym (here at e i x y).0 ∙ is)
     | inr y ↦ none_past f here s (behind isolated at e) es (past_next s at e p) y.0 x y.2 is
   ]
 
-  -- the scopes that have ended by the end of events
-  all_past : (at : EventPlace) (es : List Event) → IsOrdered at → (i : ℕ) (c : Closing) → slice_get (each isolated (closed isolated) at es) i ≡ Some c → IsPast c.scope (arrived at es)
-  unfolding arrived
-  all_past at [] o i c h = none c h
-  all_past at (e ∷ es) o i c h = elim (get_append (closed isolated at e) (each isolated (closed isolated) (behind isolated at e) es) i c h) [
-    | inl y ↦ past_all c.scope (behind isolated at e) es (closed_past at e o i c y).1
-    | inr y ↦ all_past (behind isolated at e) es (ordered_next at e o) y.0 c y.2
-  ]
+  -- ---- ends of scopes
 
-  closed_met : (at : EventPlace) (e : Event) (i : ℕ) (c : Closing) → slice_get (closed isolated at e) i ≡ Some c → c.met ≡ last_token at
-  closed_met at Took i c h = none c h
-  closed_met at (Did EndOperation) i c h = (ended_at (last_token at) at.here (here_behind_operation at.events at.around) i c h).1
-  closed_met at (Did EndRegion) i c h = (ended_at (last_token at) at.here (here_behind_region at.here at.around) i c h).1
-  closed_met at (Did _) i c h = none c h
+  module _ (place : Frame → ℕ) where
+    -- the end of the scope in which a place is
+    abbrev pub end : EventPlace → Closing
+    end at = record { scope = scope at.here; met = last_token at; place = place at.here }
+
+    -- the scope that an event ends
+    abbrev pub ends : EventPlace → Event → List Closing
+    ends at e = cond (may_end e) (ended (end at) (scope (behind isolated at e).here)) []
+
+    -- it has ended behind the event
+    closed_past : (at : EventPlace) (e : Event) → IsOrdered scope at → (i : ℕ) (c : Closing) → slice_get (ends at e) i ≡ Some c → IsPast scope c.scope (behind isolated at e)
+    closed_past at Took o i c h = none c h
+    closed_past at (Did EndOperation) o i c h = go at.around o.around (ended_at (end at) (scope (here_behind_operation at.events at.around)) i c h)
+      where
+        go : (fs : List Frame) → Descends scope (scope at.here) fs → (c ≡ end at) × (scope (here_behind_operation at.events fs) ≡ scope at.here → ⊥)
+            → IsPast scope c.scope (record { events = at.events + 1; tokens = at.tokens; here = here_behind_operation at.events fs; around = rest fs })
+        go [] d k = let is : c.scope ≡ scope at.here = ap (λ x. x.scope) k.0 in record { old = let h = o.here in omega (arith, is); here = λ e. k.1 (e ∙ is); around = tt }
+        go (f ∷ []) d k = let is : c.scope ≡ scope at.here = ap (λ x. x.scope) k.0 in record { old = let h = o.here in omega (arith, is); here = λ e. k.1 (e ∙ is); around = tt }
+        go (f ∷ g ∷ fs) d k =
+            let is : c.scope ≡ scope at.here = ap (λ x. x.scope) k.0 in
+            let less : scope f < c.scope = omega (arith, d.0, is, k.1) in
+            record { old = let h = o.here in omega (arith, is); here = λ e. k.1 (e ∙ is); around = none_below scope c.scope (scope f) (g ∷ fs) less d.1 }
+    closed_past at (Did EndRegion) o i c h = go at.around o.around (ended_at (end at) (scope (here_behind_region at.here at.around)) i c h)
+      where
+        go : (fs : List Frame) → Descends scope (scope at.here) fs → (c ≡ end at) × (scope (here_behind_region at.here fs) ≡ scope at.here → ⊥)
+            → IsPast scope c.scope (record { events = at.events + 1; tokens = at.tokens; here = here_behind_region at.here fs; around = rest fs })
+        go [] d k = absurd (k.1 refl)
+        go (f ∷ fs) d k =
+            let is : c.scope ≡ scope at.here = ap (λ x. x.scope) k.0 in
+            let less : scope f < c.scope = omega (arith, d.0, is, k.1) in
+            record { old = let h = o.here in omega (arith, is); here = λ e. k.1 (e ∙ is); around = none_below scope c.scope (scope f) fs less d.1 }
+    closed_past at (Did _) o i c h = none c h
+
+    closed_met : (at : EventPlace) (e : Event) (i : ℕ) (c : Closing) → slice_get (ends at e) i ≡ Some c → c.met ≡ last_token at
+    closed_met at Took i c h = none c h
+    closed_met at (Did EndOperation) i c h = ap (λ x. x.met) (ended_at (end at) (scope (here_behind_operation at.events at.around)) i c h).0
+    closed_met at (Did EndRegion) i c h = ap (λ x. x.met) (ended_at (end at) (scope (here_behind_region at.here at.around)) i c h).0
+    closed_met at (Did _) i c h = none c h
+
+    -- the scopes that have ended by the end of events
+    all_past : (at : EventPlace) (es : List Event) → IsOrdered scope at → (i : ℕ) (c : Closing) → slice_get (each isolated ends at es) i ≡ Some c → IsPast scope c.scope (arrived at es)
+    unfolding arrived
+    all_past at [] o i c h = none c h
+    all_past at (e ∷ es) o i c h = elim (get_append (ends at e) (each isolated ends (behind isolated at e) es) i c h) [
+      | inl y ↦ past_all c.scope (behind isolated at e) es (closed_past at e o i c y)
+      | inr y ↦ all_past (behind isolated at e) es (ordered_next at e o) y.0 c y.2
+    ]
 
 -- ---- rows over lists that go on
 
@@ -271,38 +289,68 @@ module _ (names : List ℕ) where
         go (inr a) b = inr (let met : f.met ≡ h.1.met = ap (λ g. g.met) h.4 in omega (arith, low a.0 h.1 a.2))
 
 module _ (isolated : ℕ → Bool) (names : List ℕ) (a b : List Event) where
-  begun : IsOrdered beginning
-  begun = record { here = omega arith; around = tt }
+  -- ---- names of one sort
 
-  split : {A : Type 0} (f : EventPlace → Event → List A) → each isolated f beginning (a ++ b) ≡ each isolated f beginning a ++ each isolated f (arrived isolated beginning a) b
-  split f = each_append isolated f beginning a b
+  module _ (scope place : Frame → ℕ) (part : IsScopePart scope) (f g : EventPlace → Event → List Site) (f_here : IsMadeHere scope f) (g_here : IsMadeHere scope g) where
+    abbrev close : EventPlace → Event → List Closing
+    close = ends scope part isolated place
 
-  past : (f : EventPlace → Event → List Site) → ((at : EventPlace) (e : Event) (i : ℕ) (x : Site) → slice_get (f at e) i ≡ Some x → x.scope ≡ at.here.values)
-      → (i : ℕ) (c : Closing) → slice_get (closings isolated a) i ≡ Some c → (k : ℕ) (x : Site) → slice_get (each isolated f (arrived isolated beginning a) b) k ≡ Some x → x.scope ≡ c.scope → ⊥
-  past f here i c h k x = none_past isolated f here c.scope (arrived isolated beginning a) b (all_past isolated beginning a begun i c h) k x
+    -- the names in events: those that f defines, and those that g mentions
+    abbrev named_in : List Event → Names
+    named_in es = record { definitions = each isolated f beginning es; mentions = each isolated g beginning es; closings = each isolated close beginning es }
 
-  low : {A : Type 0} (f : EventPlace → Event → List A) (token : A → ℕ) → ((at : EventPlace) (e : Event) (i : ℕ) (x : A) → slice_get (f at e) i ≡ Some x → token x ≡ last_token at)
-      → (i : ℕ) (x : A) → slice_get (each isolated f (arrived isolated beginning a) b) i ≡ Some x → tooks a ≤ token x + 1
-  low f token here i x h = let r = each_from isolated f token here (arrived isolated beginning a) b i x h in let t = arrived_tokens isolated beginning a in omega arith
+    there : EventPlace
+    there = arrived scope part isolated beginning a
+
+    more : {A : Type 0} (h : EventPlace → Event → List A) → List A
+    more h = each isolated h there b
+
+    begun : IsOrdered scope beginning
+    begun = record { here = omega (arith, part.outside 0); around = tt }
+
+    split : {A : Type 0} (h : EventPlace → Event → List A) → each isolated h beginning (a ++ b) ≡ each isolated h beginning a ++ more h
+    unfolding there more
+    split h = each_append scope part isolated h beginning a b
+
+    past : (h : EventPlace → Event → List Site) → IsMadeHere scope h
+        → (i : ℕ) (c : Closing) → slice_get (each isolated close beginning a) i ≡ Some c → (k : ℕ) (x : Site) → slice_get (more h) k ≡ Some x → x.scope ≡ c.scope → ⊥
+    unfolding there more
+    past h here i c ended k x = none_past scope part isolated h here c.scope there b (all_past scope part isolated place beginning a begun i c ended) k x
+
+    low : {A : Type 0} (h : EventPlace → Event → List A) (token : A → ℕ) → ((at : EventPlace) (e : Event) (i : ℕ) (x : A) → slice_get (h at e) i ≡ Some x → token x ≡ last_token at)
+        → (i : ℕ) (x : A) → slice_get (more h) i ≡ Some x → tooks a ≤ token x + 1
+    unfolding there more
+    low h token here i x k = let r = each_from scope part isolated h token here there b i x k in let t = arrived_tokens scope part isolated beginning a in omega arith
+
+    -- the names in both are those of one behind those of the other
+    abbrev both : Names
+    both = these (each isolated f beginning a ++ more f) (each isolated g beginning a ++ more g) (each isolated close beginning a ++ more close)
+
+    split_names : named_in (a ++ b) ≡ both
+    split_names = same_names (split f) (split g) (split close)
+
+    name_stays : (x : Fault) → HasNameFault names (named_in a) x → HasNameFault names (named_in (a ++ b)) x
+    name_stays x h = subst (λ n. HasNameFault names n x) (sym split_names) (go h)
+      where
+        go : HasNameFault names (named_in a) x → HasNameFault names both x
+        go (inl h) = inl (again_stays names (each isolated f beginning a) (more f) x h)
+        go (inr h) = inr (lacking_stays names (each isolated f beginning a) (more f) (each isolated g beginning a) (more g) (each isolated close beginning a) (more close) x (past f f_here) h)
+
+    name_later : (x : Fault) → HasNameFault names (named_in (a ++ b)) x → HasNameFault names (named_in a) x ⊎ (tooks a ≤ x.met + 1)
+    name_later x h = go (subst (λ n. HasNameFault names n x) split_names h)
+      where
+        go : HasNameFault names both x
+            → HasNameFault names (named_in a) x ⊎ (tooks a ≤ x.met + 1)
+        go (inl h) = elim (again_later names (tooks a) (each isolated f beginning a) (more f) x (low f (λ y. y.token) (λ at e i y k. (f_here at e i y k).1)) h) [ inl y ↦ inl (inl y) | inr y ↦ inr y ]
+        go (inr h) = elim (lacking_later names (each isolated f beginning a) (more f) (each isolated g beginning a) (more g) (each isolated close beginning a) (more close) (tooks a) x (past g g_here)
+            (low close (λ c. c.met) (closed_met scope part isolated place)) h) [ inl y ↦ inl (inr y) | inr y ↦ inr y ]
+
+  -- ---- all names
 
   pub stays : (f : Fault) → HasScopeFault isolated names a f → HasScopeFault isolated names (a ++ b) f
-  stays f (inl h) = inl (subst (λ xs. IsAgain names xs f) (sym (split defined)) (again_stays names (definitions isolated a) (each isolated defined (arrived isolated beginning a) b) f h))
-  stays f (inr (inl h)) = inr (inl (subst (λ xs. IsAgain names xs f) (sym (split labelled)) (again_stays names (labels isolated a) (each isolated labelled (arrived isolated beginning a) b) f h)))
-  stays f (inr (inr h)) = inr (inr (
-      subst (λ xs. IsUnresolvedName names xs (mentions isolated (a ++ b)) (closings isolated (a ++ b)) f) (sym (split defined))
-      (subst (λ xs. IsUnresolvedName names (definitions isolated a ++ each isolated defined (arrived isolated beginning a) b) xs (closings isolated (a ++ b)) f) (sym (split mentioned))
-      (subst (λ xs. IsUnresolvedName names (definitions isolated a ++ each isolated defined (arrived isolated beginning a) b) (mentions isolated a ++ each isolated mentioned (arrived isolated beginning a) b) xs f) (sym (split (closed isolated)))
-      (lacking_stays names (definitions isolated a) (each isolated defined (arrived isolated beginning a) b) (mentions isolated a) (each isolated mentioned (arrived isolated beginning a) b)
-      (closings isolated a) (each isolated (closed isolated) (arrived isolated beginning a) b) f (past defined (λ at e i x k. (defined_at at e i x k).0)) h)))))
+  stays f (inl h) = inl (name_stays (λ x. x.values) (λ x. x.values_opened) values_part defined mentioned defined_at mentioned_at f h)
+  stays f (inr h) = inr (name_stays (λ x. x.labels) (λ x. x.labels_opened) labels_part labelled label_mentioned labelled_at label_mentioned_at f h)
 
   pub later : (f : Fault) → HasScopeFault isolated names (a ++ b) f → HasScopeFault isolated names a f ⊎ (tooks a ≤ f.met + 1)
-  later f (inl h) = elim (again_later names (tooks a) (definitions isolated a) (each isolated defined (arrived isolated beginning a) b) f (low defined (λ x. x.token) (λ at e i x k. (defined_at at e i x k).1))
-      (subst (λ xs. IsAgain names xs f) (split defined) h)) [ inl x ↦ inl (inl x) | inr x ↦ inr x ]
-  later f (inr (inl h)) = elim (again_later names (tooks a) (labels isolated a) (each isolated labelled (arrived isolated beginning a) b) f (low labelled (λ x. x.token) labelled_at)
-      (subst (λ xs. IsAgain names xs f) (split labelled) h)) [ inl x ↦ inl (inr (inl x)) | inr x ↦ inr x ]
-  later f (inr (inr h)) = elim (lacking_later names (definitions isolated a) (each isolated defined (arrived isolated beginning a) b) (mentions isolated a) (each isolated mentioned (arrived isolated beginning a) b)
-      (closings isolated a) (each isolated (closed isolated) (arrived isolated beginning a) b) (tooks a) f (past mentioned (λ at e i x k. (mentioned_at at e i x k).0))
-      (low (closed isolated) (λ x. x.met) (closed_met isolated))
-      (subst (λ xs. IsUnresolvedName names (definitions isolated a ++ each isolated defined (arrived isolated beginning a) b) (mentions isolated a ++ each isolated mentioned (arrived isolated beginning a) b) xs f) (split (closed isolated))
-      (subst (λ xs. IsUnresolvedName names (definitions isolated a ++ each isolated defined (arrived isolated beginning a) b) xs (closings isolated (a ++ b)) f) (split mentioned)
-      (subst (λ xs. IsUnresolvedName names xs (mentions isolated (a ++ b)) (closings isolated (a ++ b)) f) (split defined) h)))) [ inl x ↦ inl (inr (inr x)) | inr x ↦ inr x ]
+  later f (inl h) = elim (name_later (λ x. x.values) (λ x. x.values_opened) values_part defined mentioned defined_at mentioned_at f h) [ inl x ↦ inl (inl x) | inr x ↦ inr x ]
+  later f (inr h) = elim (name_later (λ x. x.labels) (λ x. x.labels_opened) labels_part labelled label_mentioned labelled_at label_mentioned_at f h) [ inl x ↦ inl (inr x) | inr x ↦ inr x ]

@@ -3,7 +3,9 @@ use Rattle.std.proofs.Common.{◌≡◌, ℕ, ◌+◌, ◌<◌, ◌≤◌, Bool,
 use Rattle.std.proofs.lemmas.List.{drop_more, drop_all, append-nil}
 use Rattle.ir_grammar.specs.declared.grammar.Event.{Event}
 use Rattle.ir_grammar.specs.declared.grammar.Event.TheVariants.{Took, Did}
-use Rattle.ir_scopes.specs.Scopes.{EventPlace, behind, each}
+use Rattle.ir_scopes.specs.declared.sites.Closing.{Closing}
+use Rattle.ir_scopes.specs.declared.sites.Site.{Site}
+use Rattle.ir_scopes.specs.Scopes.{EventPlace, behind, each, Names}
 
 module _ {A : Type 0} (isolated : ℕ → Bool) (f : EventPlace → Event → List A) where
   pub each_step : (at after : EventPlace) (es : List Event) (i : ℕ) (d : Event) (xs ys all : List A) → i < length es → after ≡ behind isolated at (get_or es i d) → ys ≡ xs ++ f at (get_or es i d)
@@ -20,3 +22,11 @@ module _ {A : Type 0} (isolated : ℕ → Bool) (f : EventPlace → Event → Li
 pub events_behind : (isolated : ℕ → Bool) (at after : EventPlace) (e : Event) → after ≡ behind isolated at e → after.events ≡ at.events + 1
 events_behind isolated at after Took gone = ap (λ p. p.events) gone
 events_behind isolated at after (Did a) gone = ap (λ p. p.events) gone
+
+-- the names at these sites, whose scopes end so
+abbrev pub these : List Site → List Site → List Closing → Names
+these ds ms cs = record { definitions = ds; mentions = ms; closings = cs }
+
+-- names whose lists are the same are the same
+pub same_names : {ds es ms ns : List Site} {cs bs : List Closing} → ds ≡ es → ms ≡ ns → cs ≡ bs → these ds ms cs ≡ these es ns bs
+same_names {ds} {es} {ms} {ns} {cs} {bs} a b c = ap (λ x. these x ms cs) a ∙ (ap (λ x. these es x cs) b ∙ ap (λ x. these es ns x) c)

@@ -1,4 +1,4 @@
--- Which tokens name definitions of values, and which mention values.
+-- Which tokens name definitions of values, which mention values, and which name blocks.
 use Rattle.std.specs.Prelude.{ℕ, ◌+◌, ◌-◌, List, [], ◌∷◌, ◌++◌}
 use Rattle.ir_grammar.specs.declared.grammar.Action.{Action}
 use Rattle.ir_grammar.specs.declared.grammar.Action.TheVariants as act
@@ -26,3 +26,13 @@ abbrev pub mentioned_from : ℕ → List Event → List ℕ
 mentioned_from n [] = []
 mentioned_from n (Took ∷ es) = mentioned_from (n + 1) es
 mentioned_from n (Did a ∷ es) = mentioned_by a (n - 1) ++ mentioned_from n es
+
+-- the same of the tokens that name blocks, their labels
+abbrev pub labelled_by : Action → ℕ → List ℕ
+labelled_by act.Label k = k ∷ []
+labelled_by _ k = []
+
+abbrev pub labelled_from : ℕ → List Event → List ℕ
+labelled_from n [] = []
+labelled_from n (Took ∷ es) = labelled_from (n + 1) es
+labelled_from n (Did a ∷ es) = labelled_by a (n - 1) ++ labelled_from n es

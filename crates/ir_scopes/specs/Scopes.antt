@@ -16,6 +16,7 @@ use Rattle.ir_scopes.specs.declared.scopes.ScopeFault.TheVariants.{Memory, Text}
 use Rattle.ir_scopes.specs.declared.sites.Frame.{Frame}
 use Rattle.ir_scopes.specs.declared.sites.Site.{Site}
 use Rattle.ir_scopes.specs.declared.sites.Closing.{Closing}
+use Rattle.ir_scopes.specs.declared.sites.NameSites.{NameSites}
 use Rattle.ir_scopes.specs.declared.sites.Sites.{Sites}
 use Rattle.ir_scopes.specs.declared.sites.Walker.{Walker}
 use Rattle.ir_tokens.specs.Faults.{IsNamed}
@@ -45,7 +46,7 @@ pub record EventPlace : Type 0 where
 
 -- outside of all operations, behind so many events
 abbrev pub outside : ℕ → Frame
-outside n = record { isolated = false; labels = n; values = n; opened = 0 }
+outside n = record { isolated = false; labels = n; labels_opened = 0; values = n; values_opened = 0 }
 
 -- where a text begins
 abbrev pub beginning : EventPlace
@@ -57,15 +58,22 @@ last_token at = at.tokens - 1
 
 -- in an operation names mean what they mean around it
 abbrev pub operation_frame : Bool → Frame → Frame
-operation_frame isolated f = record { isolated = isolated; labels = f.labels; values = f.values; opened = f.opened }
+operation_frame isolated f = record {
+  isolated = isolated;
+  labels = f.labels;
+  labels_opened = f.labels_opened;
+  values = f.values;
+  values_opened = f.values_opened;
+}
 
 -- a region is a scope of labels, and that of an isolated operation one of values too
 abbrev pub region_frame : EventPlace → Frame
 region_frame at = record {
   isolated = false;
   labels = at.events + 1;
+  labels_opened = last_token at;
   values = cond at.here.isolated (at.events + 1) at.here.values;
-  opened = cond at.here.isolated (last_token at) at.here.opened;
+  values_opened = cond at.here.isolated (last_token at) at.here.values_opened;
 }
 
 -- behind the end of an operation; that of the root, around which there is none, ends the scope outside of all operations
@@ -123,9 +131,21 @@ abbrev pub mentioned : EventPlace → Event → List Site
 mentioned at (Did Operand) = record { scope = at.here.values; token = last_token at } ∷ []
 mentioned at _ = []
 
--- the scope of one frame ends where what follows stands in another
-abbrev pub ended : ℕ → Frame → Frame → List Closing
-ended met before after = cond (after.values == before.values) [] (record { scope = before.values; met = met; place = before.opened } ∷ [])
+-- the blocks that it mentions by their labels: no rule of a grammar gives mentions of blocks yet
+abbrev pub label_mentioned : EventPlace → Event → List Site
+label_mentioned at e = []
+
+-- the end of the scope of values in which a frame is, at a token
+abbrev pub values_end : ℕ → Frame → Closing
+values_end met f = record { scope = f.values; met = met; place = f.values_opened }
+
+-- the same of the scope of labels
+abbrev pub labels_end : ℕ → Frame → Closing
+labels_end met f = record { scope = f.labels; met = met; place = f.labels_opened }
+
+-- a scope ends where what follows is in another
+abbrev pub ended : Closing → ℕ → List Closing
+ended c next = cond (next == c.scope) [] (c ∷ [])
 
 -- the ends of operations and regions may end scopes
 abbrev pub may_end : Event → Bool
@@ -135,7 +155,11 @@ may_end _ = false
 
 -- the scope of values that an event ends
 abbrev pub closed : (ℕ → Bool) → EventPlace → Event → List Closing
-closed isolated at e = cond (may_end e) (ended (last_token at) at.here (behind isolated at e).here) []
+closed isolated at e = cond (may_end e) (ended (values_end (last_token at) at.here) (behind isolated at e).here.values) []
+
+-- the scope of labels that it ends
+abbrev pub label_closed : (ℕ → Bool) → EventPlace → Event → List Closing
+label_closed isolated at e = cond (may_end e) (ended (labels_end (last_token at) at.here) (behind isolated at e).here.labels) []
 
 -- what events make, each at its place, in their order
 abbrev pub each : {A : Type 0} → (ℕ → Bool) → (EventPlace → Event → List A) → EventPlace → List Event → List A
@@ -158,12 +182,41 @@ mentions isolated es = each isolated mentioned beginning es
 abbrev pub closings : (ℕ → Bool) → List Event → List Closing
 closings isolated es = each isolated (closed isolated) beginning es
 
+-- the mentions of blocks by their labels, in the order of the text
+abbrev pub label_mentions : (ℕ → Bool) → List Event → List Site
+label_mentions isolated es = each isolated label_mentioned beginning es
+
+-- the ends of scopes of labels, in the order of the text
+abbrev pub label_closings : (ℕ → Bool) → List Event → List Closing
+label_closings isolated es = each isolated (label_closed isolated) beginning es
+
+-- The names of one sort in a text, those of values or those of blocks: where they are defined, where they are mentioned, and
+-- where their scopes end.
+pub record Names : Type 0 where
+  pub definitions : List Site
+  pub mentions : List Site
+  pub closings : List Closing
+
+-- the names of values: a region of an isolated operation is a scope of them
+abbrev pub value_names : (ℕ → Bool) → List Event → Names
+value_names isolated es = record { definitions = definitions isolated es; mentions = mentions isolated es; closings = closings isolated es }
+
+-- the labels, by which blocks are named: each region is a scope of them
+abbrev pub label_names : (ℕ → Bool) → List Event → Names
+label_names isolated es = record {
+  definitions = labels isolated es;
+  mentions = label_mentions isolated es;
+  closings = label_closings isolated es;
+}
+
+-- the names that are collected
+abbrev pub names_at : NameSites → Names
+names_at n = record { definitions = n.definitions.items; mentions = n.mentions.items; closings = n.closings.items }
+
 -- these are the names of events
 pub record AreSites (isolated : ℕ → Bool) (es : List Event) (s : Sites) : Type 0 where
-  pub definitions : s.definitions.items ≡ definitions isolated es
-  pub labels : s.labels.items ≡ labels isolated es
-  pub mentions : s.mentions.items ≡ mentions isolated es
-  pub closings : s.closings.items ≡ closings isolated es
+  pub values : names_at s.values ≡ value_names isolated es
+  pub labels : names_at s.labels ≡ label_names isolated es
 
 -- where a walk over events has come to
 abbrev pub place_of : Walker → EventPlace
@@ -213,15 +266,17 @@ LacksName names ds ms scope = (i : ℕ) × (m : Site) × (slice_get ms i ≡ Som
 abbrev pub IsUnresolvedName : List ℕ → List Site → List Site → List Closing → Fault → Type 0
 IsUnresolvedName names ds ms cs f = (i : ℕ) × (c : Closing) × (slice_get cs i ≡ Some c) × LacksName names ds ms c.scope × (f ≡ fault_unresolved c)
 
--- the faults of names: values or labels that are defined twice, and values that have no definition
-abbrev pub HasScopeFault : (ℕ → Bool) → List ℕ → List Event → Fault → Type 0
-HasScopeFault isolated names es f =
-    IsAgain names (definitions isolated es) f ⊎ (IsAgain names (labels isolated es) f ⊎ IsUnresolvedName names (definitions isolated es) (mentions isolated es) (closings isolated es) f)
+-- the faults of names of one sort: one that is defined twice, and one that has no definition
+abbrev pub HasNameFault : List ℕ → Names → Fault → Type 0
+HasNameFault names n f = IsAgain names n.definitions f ⊎ IsUnresolvedName names n.definitions n.mentions n.closings f
 
--- the first faults that the names at these sites can have
+-- the faults of names in a text: those of values, and those of labels
+abbrev pub HasScopeFault : (ℕ → Bool) → List ℕ → List Event → Fault → Type 0
+HasScopeFault isolated names es f = HasNameFault names (value_names isolated es) f ⊎ HasNameFault names (label_names isolated es) f
+
+-- the faults that the names at these sites can have
 abbrev pub HasSiteFault : List ℕ → Sites → Fault → Type 0
-HasSiteFault names s f =
-    IsAgain names s.definitions.items f ⊎ (IsAgain names s.labels.items f ⊎ IsUnresolvedName names s.definitions.items s.mentions.items s.closings.items f)
+HasSiteFault names s f = HasNameFault names (names_at s.values) f ⊎ HasNameFault names (names_at s.labels) f
 
 -- ---- looking up
 
@@ -237,6 +292,12 @@ AreLacking names ds ms set = (scope : ℕ) → MatchBool (bag.contains nat_cmp s
 abbrev pub MeanNoted : List ℕ → List Site → List Site → List ℕ → Type 0
 MeanNoted names ds ms places = (i j : ℕ) (m : Site) → slice_get ms i ≡ Some m → Means names ds m j → m.token < length names → Means names ds m (slice_index places m.token)
 
+-- At the token of each definition of one sort is its number, and at that of each mention that means one the number of one that it
+-- means.
+pub record AreLookedUp (names : List ℕ) (n : Names) (places : List ℕ) : Type 0 where
+  pub defined : AreNoted n.definitions places
+  pub mentioned : MeanNoted names n.definitions n.mentions places
+
 -- a scope that is in the set ends
 abbrev pub EndsAmong : BTreeSet ℕ → List Closing → Fault → Type 0
 EndsAmong set cs f = (i : ℕ) × (c : Closing) × (slice_get cs i ≡ Some c) × (bag.contains nat_cmp set c.scope ≡ true) × (f ≡ fault_unresolved c)
@@ -247,23 +308,36 @@ EndsAmong set cs f = (i : ℕ) × (c : Closing) × (slice_get cs i ≡ Some c) �
 abbrev pub HaveDistinctTokens : List Site → Type 0
 HaveDistinctTokens ss = (i j : ℕ) (s t : Site) → slice_get ss i ≡ Some s → slice_get ss j ≡ Some t → s.token ≡ t.token → i ≡ j
 
--- each token names at most one value
+-- each token names at most one of these
 pub record SitesAreApart (ds ms : List Site) : Type 0 where
   pub definitions : HaveDistinctTokens ds
   pub mentions : HaveDistinctTokens ms
   pub both : (i j : ℕ) (s t : Site) → slice_get ds i ≡ Some s → slice_get ms j ≡ Some t → s.token ≡ t.token → ⊥
 
--- None of these definitions, labels, mentions and ends of scopes is at fault. Definitions have the numbers 0, 1, .. in the
--- order of the text; at the token of each, and of each mention that means it, stands its number.
-pub record Resolves (names : List ℕ) (ds ms : List Site) (cs : List Closing) (r : Resolution) : Type 0 where
-  pub count : r.count ≡ length ds
-  pub defined : SitesAreApart ds ms → (j : ℕ) (s : Site) → slice_get ds j ≡ Some s → s.token < length names → slice_index r.definitions s.token ≡ j
-  pub mentioned : SitesAreApart ds ms → (i j : ℕ) (m : Site) → slice_get ms i ≡ Some m → Means names ds m j → m.token < length names → slice_index r.definitions m.token ≡ j
-  pub resolved : (i k : ℕ) (m : Site) (c : Closing) → slice_get ms i ≡ Some m → slice_get cs k ≡ Some c → c.scope ≡ m.scope → (j : ℕ) × Means names ds m j
+-- the site is one of the definitions or of the mentions
+abbrev pub IsNameOf : Names → Site → Type 0
+IsNameOf n s = ((i : ℕ) × (slice_get n.definitions i ≡ Some s)) ⊎ ((i : ℕ) × (slice_get n.mentions i ≡ Some s))
 
--- what reading did has no fault of names, and its names are looked up
-abbrev pub IsResolved : (ℕ → Bool) → List ℕ → List Event → Resolution → Type 0
-IsResolved isolated names es r = IsNamed (HasScopeFault isolated names es) None × Resolves names (definitions isolated es) (mentions isolated es) (closings isolated es) r
+-- each token names at most one value or block
+pub record NamesAreApart (vs ls : Names) : Type 0 where
+  pub values : SitesAreApart vs.definitions vs.mentions
+  pub labels : SitesAreApart ls.definitions ls.mentions
+  pub both : (s t : Site) → IsNameOf vs s → IsNameOf ls t → s.token ≡ t.token → ⊥
+
+-- What these names mean: so many of them are defined. The definitions have the numbers 0, 1, .. in the order of the text; at the
+-- token of each, and of each mention that means it, is its number. Where the scope of a mention ends it means a definition.
+pub record Resolves (names : List ℕ) (n : Names) (numbers : List ℕ) (many : ℕ) : Type 0 where
+  pub count : many ≡ length n.definitions
+  pub defined : (j : ℕ) (s : Site) → slice_get n.definitions j ≡ Some s → s.token < length names → slice_index numbers s.token ≡ j
+  pub mentioned : (i j : ℕ) (m : Site) → slice_get n.mentions i ≡ Some m → Means names n.definitions m j → m.token < length names → slice_index numbers m.token ≡ j
+  pub resolved : (i k : ℕ) (m : Site) (c : Closing) → slice_get n.mentions i ≡ Some m → slice_get n.closings k ≡ Some c → c.scope ≡ m.scope → (j : ℕ) × Means names n.definitions m j
+
+-- What reading did has no fault of names, and its names are looked up: those of values, and labels. Values and blocks have
+-- numbers of their own, and the numbers of both are in one list: each token names at most one of them.
+pub record IsResolved (isolated : ℕ → Bool) (names : List ℕ) (es : List Event) (r : Resolution) : Type 0 where
+  pub faultless : IsNamed (HasScopeFault isolated names es) None
+  pub values : Resolves names (value_names isolated es) r.definitions r.count
+  pub labels : Resolves names (label_names isolated es) r.definitions r.labels
 
 -- the fault is the first of those that it has
 abbrev pub IsScopeFault : (ℕ → Bool) → List ℕ → List Event → ScopeFault → Type 0

@@ -7,10 +7,10 @@ ghost use Rattle.std.specs.List.Sorted.{IsPermutation, IsNonDecreasingBy};
 ghost use Rattle.ir_scopes.specs.declared.sites.Site.{Site};
 ghost use Rattle.ir_grammar.specs.Nesting.{OwnTokens};
 ghost use Rattle.ir_tokens.specs.Faults.{IsNamed, IsFirstOf};
-ghost use Rattle.ir_scopes.specs.Scopes.{is_marked, name_of, fault_again, fault_unresolved, IsAgain, AreLacking, MeanNoted, AreNoted, HasSiteFault, EndsAmong, HaveDistinctTokens, SitesAreApart, IsResolved, IsScopeFault};
+ghost use Rattle.ir_scopes.specs.Scopes.{is_marked, name_of, fault_again, fault_unresolved, IsAgain, AreLacking, MeanNoted, AreNoted, names_at, IsNameOf, HasNameFault, HasSiteFault, EndsAmong, HaveDistinctTokens, SitesAreApart, NamesAreApart, AreLookedUp, IsResolved, IsScopeFault};
 ghost use Rattle.ir_scopes.specs.Orders.{AreNumberedSites, IsScopeOrder, token_at, AreNamedAlike, HasPlaces, IsScopeWalk, number_passed, number_in, again_at, IsWithinScope, IsThrough};
 
-use crate::sites::{Closing, Site, Sites, sites_of};
+use crate::sites::{Closing, NameSites, Site, Sites, sites_of};
 use ir_grammar::grammar::Event;
 use ir_tokens::Numbers;
 use ir_tokens::faults::{Fault, FaultKind, first_of};
@@ -21,10 +21,13 @@ use std::collections::BTreeSet;
 /// What the names of a text mean.
 #[derive(Drop)]
 pub struct Resolution {
-    /// For each token that names a value, the number of its definition, in the order of the text from 0 on.
+    /// For each token that names a value or a block, the number of its definition. Values and blocks have numbers of
+    /// their own, each in the order of the text from 0 on.
     pub definitions: Numbers,
-    /// How many definitions there are.
+    /// How many definitions of values there are.
     pub count: usize,
+    /// How many labels define blocks.
+    pub labels: usize,
     pub counts: Counts,
 }
 
@@ -34,7 +37,6 @@ pub struct Resolution {
 pub struct Counts {
     pub operations: usize,
     pub regions: usize,
-    pub labels: usize,
     /// The mentions of values.
     pub mentions: usize,
 }
@@ -262,15 +264,6 @@ impl Walk {
     }
 }
 
-/// The first fault that a name stands at two of the sites in one scope.
-fn first_again(alloc: Global, names: &Numbers, sites: &[Site]) -> Result<Option<Fault>, AllocError>
-    ensures { IfOk result (IsNamed (IsAgain names.now sites.now)) }
-{
-    let mut walk = Walk::new(alloc, names, sites)?;
-    walk.pass_through(names, sites, LAST);
-    Ok(walk.again)
-}
-
 /// The first fault that one of these scopes ends.
 fn lacking_fault(closings: &[Closing], lacking: &BTreeSet<usize>) -> Option<Fault>
     ensures { IsNamed (EndsAmong lacking.now closings.now) result }
@@ -335,10 +328,10 @@ fn note_mentions(
     Ok(lacking)
 }
 
-/// What is wrong with the names of values.
+/// What is wrong with the names of one sort.
 #[derive(Drop)]
-struct ValueFaults {
-    /// That a value is defined twice.
+struct NameFaults {
+    /// That a name is defined twice.
     again: Option<Fault>,
     /// The scopes in which a name is mentioned that has no definition there.
     lacking: BTreeSet<usize>,
@@ -359,7 +352,7 @@ fn look_up_mentions(
     places: &mut Numbers,
     definitions: &[Site],
     mentions: &mut [Site],
-) -> Result<ValueFaults, AllocError>
+) -> Result<NameFaults, AllocError>
     requires { SitesAreApart definitions.now mentions.old }
     ensures again { IfOk result (λ a. IsNamed (IsAgain places.old definitions.now) a.again) }
     ensures lacking { IfOk result (λ a. AreLacking places.old definitions.now mentions.old a.lacking) }
@@ -372,48 +365,69 @@ fn look_up_mentions(
     sort_by_scope(mentions);
     let lacking = note_mentions(alloc, places, definitions, mentions, &mut walk)?;
     walk.pass_through(places, definitions, LAST);
-    Ok(ValueFaults {
+    Ok(NameFaults {
         again: walk.again,
         lacking,
     })
 }
 
-/// Writes the number of the definition that each name of a value means to the place of its token, where the name stands,
-/// and gives the first fault of the names. The mentions come into the order of their scopes.
+/// Writes the number of the definition that each name of one sort means to the place of its token, where the name
+/// stands, and gives the first fault of these names. The mentions come into the order of their scopes.
+fn resolve_names(
+    alloc: Global,
+    places: &mut Numbers,
+    sites: &mut NameSites,
+) -> Result<Option<Fault>, AllocError>
+    requires { SitesAreApart sites.old.definitions.items sites.old.mentions.items }
+    ensures fault { IfOk result (IsNamed (HasNameFault places.old (names_at sites.old))) }
+    ensures defined { OnOk result (AreNoted sites.old.definitions.items places.new) }
+    ensures mentioned { OnOk result (MeanNoted places.old sites.old.definitions.items sites.old.mentions.items
+        places.new) }
+    ensures many { OnOk result (length places.new ≡ length places.old) }
+    ensures kept { OnOk result ((k : ℕ) → ((s : Site) → IsNameOf (names_at sites.old) s → s.token ≡ k → ⊥)
+        → slice_index places.new k ≡ slice_index places.old k) }
+    ensures definitions { OnOk result (sites.new.definitions ≡ sites.old.definitions) }
+{
+    let faults = look_up_mentions(alloc, places, &sites.definitions, &mut sites.mentions)?;
+    note_definitions(places, &sites.definitions)?;
+    let unresolved = lacking_fault(&sites.closings, &faults.lacking);
+    Ok(first_of(faults.again, unresolved))
+}
+
+/// Writes the number of the definition that each name means to the place of its token, where the name stands, and gives
+/// the first fault of the names. The mentions come into the order of their scopes.
 fn resolve(
     alloc: Global,
     places: &mut Numbers,
     sites: &mut Sites,
 ) -> Result<Option<Fault>, AllocError>
-    requires { SitesAreApart sites.old.definitions.items sites.old.mentions.items }
+    requires { NamesAreApart (names_at sites.old.values) (names_at sites.old.labels) }
     ensures fault { IfOk result (IsNamed (HasSiteFault places.old sites.old)) }
-    ensures defined { OnOk result (AreNoted sites.old.definitions.items places.new) }
-    ensures mentioned { OnOk result (MeanNoted places.old sites.old.definitions.items sites.old.mentions.items
-        places.new) }
+    ensures values { OnOk result (AreLookedUp places.old (names_at sites.old.values) places.new) }
+    ensures labels { OnOk result (AreLookedUp places.old (names_at sites.old.labels) places.new) }
     ensures many { OnOk result (length places.new ≡ length places.old) }
-    ensures definitions { OnOk result (sites.new.definitions ≡ sites.old.definitions) }
+    ensures definitions { OnOk result ((sites.new.values.definitions ≡ sites.old.values.definitions)
+        × (sites.new.labels.definitions ≡ sites.old.labels.definitions)) }
 {
-    let labels = first_again(alloc, places, &sites.labels)?;
-    let faults = look_up_mentions(alloc, places, &sites.definitions, &mut sites.mentions)?;
-    note_definitions(places, &sites.definitions)?;
-    let unresolved = lacking_fault(&sites.closings, &faults.lacking);
-    Ok(first_of(faults.again, first_of(labels, unresolved)))
+    let values = resolve_names(alloc, places, &mut sites.values)?;
+    let labels = resolve_names(alloc, places, &mut sites.labels)?;
+    Ok(first_of(values, labels))
 }
 
 fn counts_of(sites: &Sites) -> Counts {
     Counts {
         operations: sites.operations,
         regions: sites.regions,
-        labels: sites.labels.len(),
-        mentions: sites.mentions.len(),
+        mentions: sites.values.mentions.len(),
     }
 }
 
 /// What the names of a text mean, of which reading did this, or the first fault of its names.
 ///
 /// `names` has a number for each token; two have the same where they are spelled alike. What they mean is written in
-/// their places, so each name of a value has a token of its own. `isolated` has for each kind of operations whether it
-/// is isolated from above. The text may be unfinished: then the scopes that are still open have no fault yet.
+/// their places, so each name of a value or a block has a token of its own. `isolated` has for each kind of operations
+/// whether it is isolated from above. The text may be unfinished: then the scopes that are still open have no fault
+/// yet.
 ///
 /// Takes time in proportion to the text where its scopes follow one another, and where one goes on behind another that
 /// stands in it, that of a sort. The table has a place for each number up to the greatest of a definition's or a label's
@@ -435,7 +449,8 @@ pub fn look_up(
         Some(fault) => Err(ScopeFault::Text(fault)),
         None => Ok(Resolution {
             definitions,
-            count: sites.definitions.len(),
+            count: sites.values.definitions.len(),
+            labels: sites.labels.definitions.len(),
             counts: counts_of(&sites),
         }),
     }

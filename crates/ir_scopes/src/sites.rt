@@ -3,7 +3,7 @@
 //! A region of an operation that is isolated from above opens a scope of values, each region one of labels. A scope
 //! is given by a number: that of the events before it.
 ghost use Rattle.std.specs.Prelude.{◌≡◌, [], ◌∷◌, ◌++◌, ◌+◌, ◌<◌, ◌≤◌, ◌^◌, OnOk, IfOk, reverse};
-ghost use Rattle.ir_scopes.specs.Scopes.{is_marked, beginning, outside, last_token, behind, here_after, around_after, here_behind_operation, here_behind_region, rest, operation_frame, region_frame, place_of, defined, labelled, mentioned, ended, closed, AreSites};
+ghost use Rattle.ir_scopes.specs.Scopes.{is_marked, beginning, outside, last_token, behind, here_after, around_after, here_behind_operation, here_behind_region, rest, operation_frame, region_frame, place_of, defined, labelled, mentioned, label_mentioned, values_end, labels_end, ended, closed, label_closed, AreSites};
 ghost use Rattle.ir_grammar.specs.declared.grammar.Event.TheVariants.{Did};
 
 use ir_grammar::grammar::{Action, Event};
@@ -16,10 +16,12 @@ pub struct Frame {
     pub isolated: bool,
     /// The scope of labels in it.
     pub labels: usize,
+    /// The token that opens the scope of labels.
+    pub labels_opened: usize,
     /// The scope of values in it.
     pub values: usize,
     /// The token that opens the scope of values.
-    pub opened: usize,
+    pub values_opened: usize,
 }
 
 /// A name in a text.
@@ -30,7 +32,7 @@ pub struct Site {
     pub token: usize,
 }
 
-/// The end of a scope of values.
+/// The end of a scope.
 #[derive(Clone, Copy)]
 pub struct Closing {
     pub scope: usize,
@@ -40,16 +42,21 @@ pub struct Closing {
     pub place: usize,
 }
 
-/// The names of a text, each list in the order of the text.
+/// The names of one sort in a text, those of values or those of blocks, each list in the order of the text.
+#[derive(Drop)]
+pub struct NameSites {
+    pub definitions: Vec<Site>,
+    pub mentions: Vec<Site>,
+    /// The ends of their scopes.
+    pub closings: Vec<Closing>,
+}
+
+/// The names of a text.
 #[derive(Drop)]
 pub struct Sites {
-    /// The definitions of values.
-    pub definitions: Vec<Site>,
-    pub labels: Vec<Site>,
-    /// The mentions of values.
-    pub mentions: Vec<Site>,
-    /// The ends of scopes of values.
-    pub closings: Vec<Closing>,
+    pub values: NameSites,
+    /// The labels, by which blocks are named.
+    pub labels: NameSites,
     /// How many operations begin. Nothing is proved of this number or the next.
     pub operations: usize,
     /// How many regions begin.
@@ -75,8 +82,33 @@ fn outside(events: usize) -> Frame
     Frame {
         isolated: false,
         labels: events,
+        labels_opened: 0,
         values: events,
-        opened: 0,
+        values_opened: 0,
+    }
+}
+
+impl Frame {
+    /// The end of the scope of values in it, at a token.
+    fn values_end(&self, met: usize) -> Closing
+        ensures { result ≡ values_end met self.now }
+    {
+        Closing {
+            scope: self.values,
+            met,
+            place: self.values_opened,
+        }
+    }
+
+    /// The end of the scope of labels in it, at a token.
+    fn labels_end(&self, met: usize) -> Closing
+        ensures { result ≡ labels_end met self.now }
+    {
+        Closing {
+            scope: self.labels,
+            met,
+            place: self.labels_opened,
+        }
     }
 }
 
@@ -136,12 +168,17 @@ impl Walker {
         Frame {
             isolated: false,
             labels: self.behind(),
+            labels_opened: self.last(),
             values: if opens {
                 self.behind()
             } else {
                 self.here.values
             },
-            opened: if opens { self.last() } else { self.here.opened },
+            values_opened: if opens {
+                self.last()
+            } else {
+                self.here.values_opened
+            },
         }
     }
 
@@ -198,60 +235,75 @@ impl Walker {
     }
 }
 
-impl Sites {
-    fn new(alloc: Global) -> Sites
+impl NameSites {
+    fn new(alloc: Global) -> NameSites
         ensures definitions { result.definitions.items ≡ [] }
-        ensures labels { result.labels.items ≡ [] }
         ensures mentions { result.mentions.items ≡ [] }
         ensures closings { result.closings.items ≡ [] }
     {
-        Sites {
+        NameSites {
             definitions: Vec::new(alloc),
-            labels: Vec::new(alloc),
             mentions: Vec::new(alloc),
             closings: Vec::new(alloc),
-            operations: 0,
-            regions: 0,
         }
     }
 
-    /// Adds the scope of values that ends at a token between one frame and the next, if one does.
-    fn add_end(&mut self, met: usize, before: Frame, after: Frame) -> Result<(), AllocError>
-        ensures closings { OnOk result (self.new.closings.items ≡ self.old.closings.items ++ ended met before after) }
+    /// Adds the end of a scope, if what follows is in another.
+    fn add_end(&mut self, closing: Closing, next: usize) -> Result<(), AllocError>
+        ensures closings { OnOk result (self.new.closings.items ≡ self.old.closings.items ++ ended closing next) }
         ensures definitions { self.new.definitions.items ≡ self.old.definitions.items }
-        ensures labels { self.new.labels.items ≡ self.old.labels.items }
         ensures mentions { self.new.mentions.items ≡ self.old.mentions.items }
     {
-        if after.values != before.values {
-            self.closings.push(Closing {
-                scope: before.values,
-                met,
-                place: before.opened,
-            })?;
+        if next != closing.scope {
+            self.closings.push(closing)?;
         }
         Ok(())
     }
+}
 
-    /// Adds the names and the end that the action makes at the place to which the walk has come, and opens or leaves
+impl Sites {
+    /// Adds the scopes that end at a token between one frame and the next.
+    fn add_ends(&mut self, met: usize, before: Frame, after: Frame) -> Result<(), AllocError>
+        ensures closings { OnOk result (self.new.values.closings.items ≡ self.old.values.closings.items ++ ended
+            (values_end met before) after.values) }
+        ensures label_closings { OnOk result (self.new.labels.closings.items ≡ self.old.labels.closings.items ++ ended
+            (labels_end met before) after.labels) }
+        ensures definitions { self.new.values.definitions.items ≡ self.old.values.definitions.items }
+        ensures mentions { self.new.values.mentions.items ≡ self.old.values.mentions.items }
+        ensures labels { self.new.labels.definitions.items ≡ self.old.labels.definitions.items }
+        ensures label_mentions { self.new.labels.mentions.items ≡ self.old.labels.mentions.items }
+    {
+        self.values.add_end(before.values_end(met), after.values)?;
+        self.labels.add_end(before.labels_end(met), after.labels)
+    }
+
+    /// Adds the names and the ends that the action makes at the place to which the walk has come, and opens or leaves
     /// what the action does. One `match` does all of it, since most actions do nothing here.
     fn act(&mut self, at: &mut Walker, action: Action, isolated: &[bool]) -> Result<(), AllocError>
         requires { (place_of at.old).events < 2 ^ 63 }
         ensures here { OnOk result (at.new.here ≡ here_after (is_marked isolated.now) (place_of at.old) action) }
         ensures around { OnOk result (reverse at.new.around.items ≡ around_after (place_of at.old) action) }
         ensures counts { OnOk result ((at.new.tokens ≡ at.old.tokens) × (at.new.actions ≡ at.old.actions)) }
-        ensures definitions { OnOk result (self.new.definitions.items ≡ self.old.definitions.items ++ defined
+        ensures definitions { OnOk result (self.new.values.definitions.items ≡ self.old.values.definitions.items ++
+            defined (place_of at.old) (Did action)) }
+        ensures mentions { OnOk result (self.new.values.mentions.items ≡ self.old.values.mentions.items ++ mentioned
             (place_of at.old) (Did action)) }
-        ensures labels { OnOk result (self.new.labels.items ≡ self.old.labels.items ++ labelled (place_of at.old)
-            (Did action)) }
-        ensures mentions { OnOk result (self.new.mentions.items ≡ self.old.mentions.items ++ mentioned
-            (place_of at.old) (Did action)) }
-        ensures closings { OnOk result (self.new.closings.items ≡ self.old.closings.items ++ closed
+        ensures closings { OnOk result (self.new.values.closings.items ≡ self.old.values.closings.items ++ closed
             (is_marked isolated.now) (place_of at.old) (Did action)) }
+        ensures labels { OnOk result (self.new.labels.definitions.items ≡ self.old.labels.definitions.items ++ labelled
+            (place_of at.old) (Did action)) }
+        ensures label_mentions { OnOk result (self.new.labels.mentions.items ≡ self.old.labels.mentions.items ++
+            label_mentioned (place_of at.old) (Did action)) }
+        ensures label_closings { OnOk result (self.new.labels.closings.items ≡ self.old.labels.closings.items ++
+            label_closed (is_marked isolated.now) (place_of at.old) (Did action)) }
     {
         match action {
-            Action::Result | Action::Argument => self.definitions.push(at.site(at.here.values))?,
-            Action::Label => self.labels.push(at.site(at.here.labels))?,
-            Action::Operand => self.mentions.push(at.site(at.here.values))?,
+            Action::Result | Action::Argument => self
+                .values
+                .definitions
+                .push(at.site(at.here.values))?,
+            Action::Label => self.labels.definitions.push(at.site(at.here.labels))?,
+            Action::Operand => self.values.mentions.push(at.site(at.here.values))?,
             Action::Operation(number) => {
                 self.operations = self.operations.saturating_add(1);
                 at.enter(at.operation(is_isolated(isolated, number)))?;
@@ -263,12 +315,12 @@ impl Sites {
             Action::EndOperation => {
                 let inner = at.here;
                 at.leave_operation();
-                self.add_end(at.last(), inner, at.here)?;
+                self.add_ends(at.last(), inner, at.here)?;
             }
             Action::EndRegion => {
                 let inner = at.here;
                 at.leave_region();
-                self.add_end(at.last(), inner, at.here)?;
+                self.add_ends(at.last(), inner, at.here)?;
             }
             _ => {}
         }
@@ -279,14 +331,18 @@ impl Sites {
     fn follow(&mut self, at: &mut Walker, event: Event, isolated: &[bool]) -> Result<(), AllocError>
         requires { (place_of at.old).events < 2 ^ 63 }
         ensures walk { OnOk result (place_of at.new ≡ behind (is_marked isolated.now) (place_of at.old) event) }
-        ensures definitions { OnOk result (self.new.definitions.items ≡ self.old.definitions.items ++ defined
+        ensures definitions { OnOk result (self.new.values.definitions.items ≡ self.old.values.definitions.items ++
+            defined (place_of at.old) event) }
+        ensures mentions { OnOk result (self.new.values.mentions.items ≡ self.old.values.mentions.items ++ mentioned
             (place_of at.old) event) }
-        ensures labels { OnOk result (self.new.labels.items ≡ self.old.labels.items ++ labelled
-            (place_of at.old) event) }
-        ensures mentions { OnOk result (self.new.mentions.items ≡ self.old.mentions.items ++ mentioned
-            (place_of at.old) event) }
-        ensures closings { OnOk result (self.new.closings.items ≡ self.old.closings.items ++ closed
+        ensures closings { OnOk result (self.new.values.closings.items ≡ self.old.values.closings.items ++ closed
             (is_marked isolated.now) (place_of at.old) event) }
+        ensures labels { OnOk result (self.new.labels.definitions.items ≡ self.old.labels.definitions.items ++ labelled
+            (place_of at.old) event) }
+        ensures label_mentions { OnOk result (self.new.labels.mentions.items ≡ self.old.labels.mentions.items ++
+            label_mentioned (place_of at.old) event) }
+        ensures label_closings { OnOk result (self.new.labels.closings.items ≡ self.old.labels.closings.items ++
+            label_closed (is_marked isolated.now) (place_of at.old) event) }
     {
         match event {
             Event::Took => at.tokens += 1,
@@ -306,7 +362,12 @@ pub fn sites_of(alloc: Global, events: &[Event], isolated: &[bool]) -> Result<Si
     ensures { IfOk result (AreSites (is_marked isolated.now) events.now) }
 {
     let mut walker = Walker::new(alloc);
-    let mut sites = Sites::new(alloc);
+    let mut sites = Sites {
+        values: NameSites::new(alloc),
+        labels: NameSites::new(alloc),
+        operations: 0,
+        regions: 0,
+    };
     for event in events {
         sites.follow(&mut walker, *event, isolated)?;
     }

@@ -23,11 +23,10 @@ use Rattle.ir_forest.specs.Progress.{Leads}
 use Rattle.ir_grammar.specs.Nesting.{at_root, at_end, OwnTokens}
 use Rattle.ir_grammar.specs.Reading.{tooks}
 use Rattle.ir_scopes.specs.Naming.{defined_from, mentioned_from}
-use Rattle.ir_scopes.specs.Scopes.{IsResolved, SitesAreApart, definitions, mentions}
+use Rattle.ir_scopes.specs.Scopes.{IsResolved, definitions, mentions}
 use Rattle.ir_rereading.specs.Texts.{IsReading, HasFault}
 use Rattle.ir_formats.specs.Words.{token_text}
 use Rattle.text_reading.specs.Understood.{IsSaid, IsRead}
-use Rattle.ir_scopes.proofs.Apart.{are_apart}
 use Rattle.ir_forest.proofs.BuiltTrees.{built_ended, built_forest, leads_nests}
 use Rattle.ir_rereading.proofs.trees.Closings.{mentions_end}
 use Rattle.ir_rereading.proofs.trees.DefinedTokens.{defined_tokens, many_defined, defined_site, mentioned_site, definitions_taken, mentions_taken}
@@ -42,9 +41,6 @@ use Rattle.text_reading.proofs.Renamed.{renamed_tree}
 
 module _ (l : Language) (cs : List ℕ) (ts : List Token) (names : List ℕ) (stop : Stop) (n : ℕ) (es : List Event) (r : Resolution) (reading : IsReading l cs ts names stop n es)
     (leads : Leads at_root [] es at_end []) (own : OwnTokens false es) (resolved : IsResolved l.isolated names es r) (enough : length ts ≤ length names) (many : length r.definitions ≡ length names) where
-  apart : SitesAreApart (definitions l.isolated es) (mentions l.isolated es)
-  apart = are_apart l.isolated es own
-
   within : (k : ℕ) → k < tooks es → k < length names
   within k lt = let few = reading_taken l cs ts names stop n es reading in omega arith
 
@@ -52,16 +48,16 @@ module _ (l : Language) (cs : List ℕ) (ts : List Token) (names : List ℕ) (st
   defined_number : (i k : ℕ) → slice_get (defined_from 0 es) i ≡ Some k → slice_index r.definitions k ≡ i
   defined_number i k h =
       let d = defined_site l.isolated es i k h in
-      sym (ap (slice_index r.definitions) d.2) ∙ resolved.1.defined apart i d.0 d.1 (within d.0.token (definitions_taken l.isolated es own i d.0 d.1))
+      sym (ap (slice_index r.definitions) d.2) ∙ resolved.values.defined i d.0 d.1 (within d.0.token (definitions_taken l.isolated es own i d.0 d.1))
 
   -- each token that mentions a value has the number of a definition
   mentioned_number : (i k : ℕ) → slice_get (mentioned_from 0 es) i ≡ Some k → (j : ℕ) × (slice_get r.definitions k ≡ Some j) × (j < length (defined_from 0 es))
   mentioned_number i k h =
       let m = mentioned_site l.isolated es i k h in
       let c = mentions_end l.isolated es leads i m.0 m.1 in
-      let means = resolved.1.resolved i c.0 m.0 c.1 m.1 c.2 c.3 in
+      let means = resolved.values.resolved i c.0 m.0 c.1 m.1 c.2 c.3 in
       let lt = within m.0.token (mentions_taken l.isolated es own i m.0 m.1) in
-      let number = resolved.1.mentioned apart i means.0 m.0 m.1 means.1 lt in
+      let number = resolved.values.mentioned i means.0 m.0 m.1 means.1 lt in
       let at : slice_get r.definitions m.0.token ≡ Some means.0 = slice_get-get_or r.definitions m.0.token 0 (omega arith) ∙ ap (λ x. Some x) number in
       (means.0, sym (ap (slice_get r.definitions) m.2) ∙ at, (let there = slice_get_within (definitions l.isolated es) means.0 means.1.0 means.1.1 in omega (arith, many_defined l.isolated es)))
 

@@ -149,7 +149,7 @@ fn room_of(resolved: &Result<Resolution, ScopeFault>) -> Room {
         Ok(resolution) => Room {
             operations: resolution.counts.operations,
             regions: resolution.counts.regions,
-            blocks: resolution.counts.labels,
+            blocks: resolution.labels,
             values: resolution.count,
             operands: resolution.counts.mentions,
             successors: 0,

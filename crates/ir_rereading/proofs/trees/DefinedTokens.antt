@@ -8,11 +8,11 @@ use Rattle.ir_scopes.specs.declared.sites.Site.{Site}
 use Rattle.ir_grammar.specs.Reading.{tooks}
 use Rattle.ir_scopes.specs.Naming.{defined_from, mentioned_from}
 use Rattle.ir_scopes.specs.Scopes.{EventPlace, beginning, behind, defined, mentioned, each, definitions, mentions}
-use Rattle.ir_grammar.specs.Nesting.{names_value, OwnTokens}
+use Rattle.ir_grammar.specs.Nesting.{names_value_or_block, OwnTokens}
 use Rattle.ir_scopes.proofs.Apart.{get_append}
 
 -- the tokens at sites
-abbrev tokens_at : List Site → List ℕ
+abbrev pub tokens_at : List Site → List ℕ
 tokens_at ss = map (λ s. s.token) ss
 
 tokens_append : (xs ys : List Site) → tokens_at (xs ++ ys) ≡ tokens_at xs ++ tokens_at ys
@@ -43,7 +43,7 @@ module _ (isolated : ℕ → Bool) where
 
 -- ---- where the tokens are
 
-length_map : {X Y : Type 0} (f : X → Y) (xs : List X) → length (map f xs) ≡ length xs
+pub length_map : {X Y : Type 0} (f : X → Y) (xs : List X) → length (map f xs) ≡ length xs
 length_map f [] = refl
 length_map f (x ∷ xs) = ap suc (length_map f xs)
 
@@ -51,7 +51,7 @@ length_map f (x ∷ xs) = ap suc (length_map f xs)
 pub many_defined : (isolated : ℕ → Bool) (es : List Event) → length (defined_from 0 es) ≡ length (definitions isolated es)
 many_defined isolated es = ap (λ (xs : List ℕ). length xs) (sym (defined_tokens isolated es)) ∙ length_map (λ s. s.token) (definitions isolated es)
 
-site_of : (ss : List Site) (i k : ℕ) → slice_get (map (λ s. s.token) ss) i ≡ Some k → (s : Site) × (slice_get ss i ≡ Some s) × (s.token ≡ k)
+pub site_of : (ss : List Site) (i k : ℕ) → slice_get (map (λ s. s.token) ss) i ≡ Some k → (s : Site) × (slice_get ss i ≡ Some s) × (s.token ≡ k)
 site_of [] i k h = let wrong : None ≡ Some k = h in cc
 site_of (s ∷ ss) zero k h = (s, refl, (let same : Some s.token ≡ Some k = h in cc))
 site_of (s ∷ ss) (suc i) k h = site_of ss i k h
@@ -66,22 +66,22 @@ mentioned_site isolated es i k h = site_of (mentions isolated es) i k (ap (λ (x
 
 -- ---- tokens are taken before they name something
 
-nowhere : {A : Type 0} (s : Site) → None ≡ Some s → A
+pub nowhere : {A : Type 0} (s : Site) → None ≡ Some s → A
 nowhere s h = cc
 
-one : (x s : Site) (i : ℕ) → slice_get (x ∷ []) i ≡ Some s → x ≡ s
+pub one : (x s : Site) (i : ℕ) → slice_get (x ∷ []) i ≡ Some s → x ≡ s
 one x s zero h = cc
 one x s (suc i) h = nowhere s h
 
-abbrev Taken : Bool → EventPlace → Type 0
+abbrev pub Taken : Bool → EventPlace → Type 0
 Taken true at = 0 < at.tokens
 Taken false at = Unit {0}
 
 -- what an event makes names the last token, which has been taken
-abbrev IsTaken : (EventPlace → Event → List Site) → Type 0
+abbrev pub IsTaken : (EventPlace → Event → List Site) → Type 0
 IsTaken f = (at : EventPlace) (e : Event) (fresh : Bool) (es : List Event) (i : ℕ) (s : Site) → slice_get (f at e) i ≡ Some s → Taken fresh at → OwnTokens fresh (e ∷ es) → s.token < at.tokens
 
-last_taken : (at : EventPlace) (fresh : Bool) (s : Site) → s.token ≡ at.tokens - 1 → fresh ≡ true → Taken fresh at → s.token < at.tokens
+pub last_taken : (at : EventPlace) (fresh : Bool) (s : Site) → s.token ≡ at.tokens - 1 → fresh ≡ true → Taken fresh at → s.token < at.tokens
 last_taken at true s e f t = omega arith
 last_taken at false s e f t = let wrong : false ≡ true = f in cc
 
@@ -97,7 +97,7 @@ mentioned_taken at (Did Operand) fresh es i s h t own = last_taken at fresh s (s
 mentioned_taken at (Did _) fresh es i s h t own = nowhere s h
 
 module _ (isolated : ℕ → Bool) (f : EventPlace → Event → List Site) (taken : IsTaken f) where
-  each_taken : (fresh : Bool) (at : EventPlace) (es : List Event) → Taken fresh at → OwnTokens fresh es → (i : ℕ) (s : Site) → slice_get (each isolated f at es) i ≡ Some s → s.token < at.tokens + tooks es
+  pub each_taken : (fresh : Bool) (at : EventPlace) (es : List Event) → Taken fresh at → OwnTokens fresh es → (i : ℕ) (s : Site) → slice_get (each isolated f at es) i ≡ Some s → s.token < at.tokens + tooks es
   each_taken fresh at [] t own i s h = nowhere s h
   each_taken fresh at (Took ∷ es) t own i s h = elim (get_append (f at Took) (each isolated f (behind isolated at Took) es) i s h) [
     | inl x ↦ (let lt = taken at Took fresh es i s x t own in omega arith)
@@ -105,7 +105,7 @@ module _ (isolated : ℕ → Bool) (f : EventPlace → Event → List Site) (tak
   ]
   each_taken fresh at (Did a ∷ es) t own i s h = elim (get_append (f at (Did a)) (each isolated f (behind isolated at (Did a)) es) i s h) [
     | inl x ↦ (let lt = taken at (Did a) fresh es i s x t own in omega arith)
-    | inr x ↦ go (names_value a) own (λ next n o. each_taken next (behind isolated at (Did a)) es n o x.0 s x.2)
+    | inr x ↦ go (names_value_or_block a) own (λ next n o. each_taken next (behind isolated at (Did a)) es n o x.0 s x.2)
   ]
     where
       still : (b : Bool) → Taken b at → Taken b (behind isolated at (Did a))

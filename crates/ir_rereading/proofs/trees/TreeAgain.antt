@@ -7,7 +7,8 @@ use Rattle.ir_scopes.specs.declared.scopes.Resolution.{Resolution}
 use Rattle.ir_scopes.specs.declared.sites.Closing.{Closing}
 use Rattle.ir_scopes.specs.declared.sites.Site.{Site}
 use Rattle.ir_forest.specs.Meaning.{renamed}
-use Rattle.ir_scopes.specs.Scopes.{name_of, Means, SitesAreApart, Resolves}
+use Rattle.ir_scopes.specs.Scopes.{name_of, Means, Resolves}
+use Rattle.ir_scopes.proofs.Walks.{these}
 use Rattle.ir_forest.specs.Closed.{AllDistinct, names_of, head_defines, is_isolated_head, in_scope, defined_by, all_defined, mentioned_by, all_mentioned, definitions_of, all_definitions_of, IsScope, IsScoped, AreScoped, IsScopedRoot, unlabelled, IsOperation, AreRegions, AreBlocks, IsBlock, AreOperations, IsNumbered}
 use Rattle.ir_rereading.proofs.trees.TreeSites.{In, in_left, in_right, in_either, in_none}
 use Rattle.ir_rereading.proofs.trees.TreeRenamed.{operands_of, all_operands_of}
@@ -165,11 +166,11 @@ module _ (isolated : ℕ → Bool) (v : Values) (names : List ℕ) (ds ms : List
   -- number that it stands for.
   pub tree_again : unlabelled (renamed text tree) ≡ unlabelled (renamed ν t) → IsOperation v t → IsNumbered t → IsScopedRoot isolated t → AllDistinct (definitions_of (renamed text tree))
       → definitions_of tree ≡ map (λ s. s.token) ds → ((k : ℕ) → In k (operands_of tree) → (m : Site) × In m ms × (m.token ≡ k))
-      → Resolves names ds ms cs r → SitesAreApart ds ms → ((m : Site) → In m ms → (j : ℕ) × Means names ds m j)
+      → Resolves names (these ds ms cs) r.definitions r.count → ((m : Site) → In m ms → (j : ℕ) × Means names ds m j)
       → ((s : Site) → In s ds → s.token < length names) → ((m : Site) → In m ms → m.token < length names)
       → ((s m : Site) → In s ds → In m ms → name_of names s.token ≡ name_of names m.token → text s.token ≡ text m.token)
       → unlabelled (renamed (slice_index r.definitions) tree) ≡ unlabelled t
-  tree_again same whole numbered scoped distinct tokens operands resolves apart meant here within alike =
+  tree_again same whole numbered scoped distinct tokens operands resolves meant here within alike =
       alike_to number tree t (alike_rebuild Spelled Numbered tree t spelled defines mentions)
     where
       printed : Alike (λ x n. x ≡ ν n) (renamed text tree) t
@@ -191,7 +192,7 @@ module _ (isolated : ℕ → Bool) (v : Values) (names : List ℕ) (ds ms : List
           go : (i k n : ℕ) → slice_get (definitions_of tree) i ≡ Some k → slice_get (definitions_of t) i ≡ Some n → Spelled k n → Numbered k n
           go i k n at there e =
               let s = site_at ds i k (ap (λ (xs : List ℕ). slice_get xs i) (sym tokens) ∙ at) in
-              let found : number s.0.token ≡ i = resolves.defined apart i s.0 s.1 (here s.0 (i, s.1)) in
+              let found : number s.0.token ≡ i = resolves.defined i s.0 s.1 (here s.0 (i, s.1)) in
               ap number (sym s.2) ∙ found ∙ sym (numbered_at t numbered i n there)
 
       -- the definition at a name is the only one
@@ -215,5 +216,5 @@ module _ (isolated : ℕ → Bool) (v : Values) (names : List ℕ) (ds ms : List
               let s = means.1.0 in
               let spelling : text s.token ≡ ν n = alike s m.0 (means.0, means.1.1) m.1 means.1.2.1 ∙ (ap text m.2 ∙ e) in
               let j : means.0 ≡ defined.0 = one means.0 defined.0 n s means.1.1 defined.1 spelling in
-              let found : number m.0.token ≡ means.0 = resolves.mentioned apart m.1.0 means.0 m.0 m.1.1 means.1 (within m.0 m.1) in
+              let found : number m.0.token ≡ means.0 = resolves.mentioned m.1.0 means.0 m.0 m.1.1 means.1 (within m.0 m.1) in
               ap number (sym m.2) ∙ (found ∙ (j ∙ sym (numbered_at t numbered defined.0 n defined.1)))

@@ -1,13 +1,13 @@
 -- The names of a text without faults of names can be looked up.
-use Rattle.std.proofs.Common.{◌≡◌, ℕ, zero, suc, ◌<◌, ◌^◌, List, [], ◌∷◌, map, length, Some, None, slice_get, slice_index, refl, sym, subst, ap, ◌∙◌, arith, ◌⊎◌, inl, inr}
+use Rattle.std.proofs.Common.{◌≡◌, ℕ, zero, suc, ◌<◌, List, [], ◌∷◌, map, length, Option, Some, None, slice_get, slice_index, refl, sym, subst, ap, ◌∙◌, arith, ◌⊎◌, inl, inr}
 use Rattle.std.specs.List.{range_with_len}
-use Rattle.std.proofs.lemmas.Bool.{cases_eq, cases_order}
+use Rattle.std.proofs.lemmas.Bool.{cases_eq}
 use Rattle.std.proofs.lemmas.List.FromFn.{get_or-map-range_with_len}
 use Rattle.ir_tokens.specs.declared.faults.Fault.{Fault}
 use Rattle.ir_scopes.specs.declared.scopes.Resolution.{Resolution}
-use Rattle.ir_scopes.specs.declared.sites.Closing.{Closing}
 use Rattle.ir_scopes.specs.declared.sites.Site.{Site}
-use Rattle.ir_scopes.specs.Scopes.{name_of, SiteHasName, Means, IsAgain, fault_again, SitesAreApart, Resolves}
+use Rattle.ir_scopes.specs.Scopes.{name_of, Means, IsAgain, Names, IsNameOf, SitesAreApart, NamesAreApart, Resolves}
+use Rattle.ir_scopes.proofs.Resolving.{one_number}
 
 -- a site with this token
 abbrev IsAt : ℕ → List Site → Type 0
@@ -30,71 +30,99 @@ site_of k (x ∷ ss) = go (cases_eq x.token k) (site_of k ss)
     go (inr not) (inl more) = inl (suc more.0, more.1, more.2, more.3)
     go (inr not) (inr none) = inr (nowhere not none)
 
--- a name that isn't defined twice has one number
-one_number : (names : List ℕ) (ds : List Site) → ((f : Fault) → IsAgain names ds f → ⊥) → (scope name i j : ℕ) → SiteHasName names ds scope name i → SiteHasName names ds scope name j → i ≡ j
-one_number names ds none scope name i j a b = go (cases_order i j)
-  where
-    again : (i j : ℕ) → i < j → SiteHasName names ds scope name i → SiteHasName names ds scope name j → ⊥
-    again i j lt a b =
-        let at : SiteHasName names ds b.0.scope (name_of names b.0.token) i
-        = subst (λ n. SiteHasName names ds b.0.scope n i) (sym b.2.1) (subst (λ n. SiteHasName names ds n name i) (sym b.2.0) a) in
-        none (fault_again b.0.token) (i, j, b.0, lt, b.1, at, refl)
+-- each mention of these names means a definition
+abbrev pub AllMean : List ℕ → Names → Type 0
+AllMean names n = (i : ℕ) (m : Site) → slice_get n.mentions i ≡ Some m → (j : ℕ) × Means names n.definitions m j
 
-    go : (i ≡ j) ⊎ ((i < j) ⊎ (j < i)) → i ≡ j
-    go (inl e) = e
-    go (inr (inl lt)) = absurd (again i j lt a b)
-    go (inr (inr lt)) = absurd (again j i lt b a)
+module _ (names : List ℕ) (n : Names) (meant : AllMean names n) where
+  -- the number at a token, by which of the names is there
+  abbrev number_by : (k : ℕ) → IsAt k n.definitions ⊎ IsNowhere k n.definitions → IsAt k n.mentions ⊎ IsNowhere k n.mentions → Option ℕ
+  number_by k (inl d) m = Some d.0
+  number_by k (inr none) (inl m) = Some (meant m.0 m.1 m.2).0
+  number_by k (inr none) (inr nowhere) = None
 
-module _ (names : List ℕ) (ds ms : List Site) (meant : (i : ℕ) (m : Site) → slice_get ms i ≡ Some m → (j : ℕ) × Means names ds m j) where
-  -- the number at a token, by what stands there
-  abbrev number_by : (k : ℕ) → IsAt k ds ⊎ IsNowhere k ds → IsAt k ms ⊎ IsNowhere k ms → ℕ
-  number_by k (inl d) m = d.0
-  number_by k (inr none) (inl m) = (meant m.0 m.1 m.2).0
-  number_by k (inr none) (inr nowhere) = 0
+  number_at : ℕ → Option ℕ
+  number_at k = number_by k (site_of k n.definitions) (site_of k n.mentions)
 
-  number_at : ℕ → ℕ
-  number_at k = number_by k (site_of k ds) (site_of k ms)
-
-  abbrev numbers : List ℕ
-  numbers = map number_at (range_with_len 0 (length names))
-
-  at_token : (k : ℕ) → k < length names → slice_index numbers k ≡ number_at k
-  at_token k lt = get_or-map-range_with_len number_at 0 (length names) k k 0 lt (omega arith)
-
-  number_defined : SitesAreApart ds ms → (j : ℕ) (s : Site) → slice_get ds j ≡ Some s → number_at s.token ≡ j
+  number_defined : SitesAreApart n.definitions n.mentions → (j : ℕ) (s : Site) → slice_get n.definitions j ≡ Some s → number_at s.token ≡ Some j
   unfolding number_at
-  number_defined apart j s at = go (site_of s.token ds) (site_of s.token ms)
+  number_defined apart j s at = go (site_of s.token n.definitions) (site_of s.token n.mentions)
     where
-      go : (d : IsAt s.token ds ⊎ IsNowhere s.token ds) (m : IsAt s.token ms ⊎ IsNowhere s.token ms) → number_by s.token d m ≡ j
-      go (inl d) m = apart.definitions d.0 j d.1 s d.2 at d.3
+      go : (d : IsAt s.token n.definitions ⊎ IsNowhere s.token n.definitions) (m : IsAt s.token n.mentions ⊎ IsNowhere s.token n.mentions) → number_by s.token d m ≡ Some j
+      go (inl d) m = ap (λ k. Some k) (apart.definitions d.0 j d.1 s d.2 at d.3)
       go (inr none) m = absurd (none j s at refl)
 
-  number_mentioned : ((f : Fault) → IsAgain names ds f → ⊥) → SitesAreApart ds ms → (i j : ℕ) (m : Site) → slice_get ms i ≡ Some m → Means names ds m j → number_at m.token ≡ j
+  number_mentioned : ((f : Fault) → IsAgain names n.definitions f → ⊥) → SitesAreApart n.definitions n.mentions → (i j : ℕ) (m : Site) → slice_get n.mentions i ≡ Some m → Means names n.definitions m j
+      → number_at m.token ≡ Some j
   unfolding number_at
-  number_mentioned once apart i j m at means = go (site_of m.token ds) (site_of m.token ms)
+  number_mentioned once apart i j m at means = go (site_of m.token n.definitions) (site_of m.token n.mentions)
     where
-      go : (d : IsAt m.token ds ⊎ IsNowhere m.token ds) (n : IsAt m.token ms ⊎ IsNowhere m.token ms) → number_by m.token d n ≡ j
-      go (inl d) n = absurd (apart.both d.0 i d.1 m d.2 at d.3)
+      go : (d : IsAt m.token n.definitions ⊎ IsNowhere m.token n.definitions) (x : IsAt m.token n.mentions ⊎ IsNowhere m.token n.mentions) → number_by m.token d x ≡ Some j
+      go (inl d) x = absurd (apart.both d.0 i d.1 m d.2 at d.3)
       go (inr none) (inr nowhere) = absurd (nowhere i m at refl)
-      go (inr none) (inl n) =
-          let found = meant n.0 n.1 n.2 in
-          let index : n.0 ≡ i = apart.mentions n.0 i n.1 m n.2 at n.3 in
-          let both : Some n.1 ≡ Some m = sym n.2 ∙ (ap (λ (k : ℕ). slice_get ms k) index ∙ at) in
-          let same : n.1 ≡ m = cc in
-          one_number names ds once m.scope (name_of names m.token) found.0 j (subst (λ (x : Site). Means names ds x found.0) same found.1) means
+      go (inr none) (inl x) =
+          let found = meant x.0 x.1 x.2 in
+          let index : x.0 ≡ i = apart.mentions x.0 i x.1 m x.2 at x.3 in
+          let both : Some x.1 ≡ Some m = sym x.2 ∙ (ap (λ (k : ℕ). slice_get n.mentions k) index ∙ at) in
+          let same : x.1 ≡ m = cc in
+          ap (λ k. Some k) (one_number names n.definitions once m.scope (name_of names m.token) found.0 j (subst (λ (y : Site). Means names n.definitions y found.0) same found.1) means)
+
+  -- where none of the names is
+  number_nowhere : (k : ℕ) → ((s : Site) → IsNameOf n s → s.token ≡ k → ⊥) → number_at k ≡ None
+  unfolding number_at
+  number_nowhere k none = go (site_of k n.definitions) (site_of k n.mentions)
+    where
+      go : (d : IsAt k n.definitions ⊎ IsNowhere k n.definitions) (m : IsAt k n.mentions ⊎ IsNowhere k n.mentions) → number_by k d m ≡ None
+      go (inl d) m = absurd (none d.1 (inl (d.0, d.2)) d.3)
+      go (inr x) (inl m) = absurd (none m.1 (inr (m.0, m.2)) m.3)
+      go (inr x) (inr y) = refl
+
+-- the first number, or the second where there is no first
+abbrev either_number : Option ℕ → Option ℕ → ℕ
+either_number (Some x) o = x
+either_number None (Some x) = x
+either_number None None = 0
+
+module _ (names : List ℕ) (values labels : Names) (values_meant : AllMean names values) (labels_meant : AllMean names labels) (apart : NamesAreApart values labels) where
+  number : ℕ → ℕ
+  number k = either_number (number_at names values values_meant k) (number_at names labels labels_meant k)
+
+  abbrev numbers : List ℕ
+  numbers = map number (range_with_len 0 (length names))
+
+  at_token : (k : ℕ) → k < length names → slice_index numbers k ≡ number k
+  at_token k lt = get_or-map-range_with_len number 0 (length names) k k 0 lt (omega arith)
+
+  value_number : (k j : ℕ) → number_at names values values_meant k ≡ Some j → number k ≡ j
+  unfolding number
+  value_number k j e = ap (λ o. either_number o (number_at names labels labels_meant k)) e
+
+  label_number : (s : Site) (j : ℕ) → IsNameOf labels s → number_at names labels labels_meant s.token ≡ Some j → number s.token ≡ j
+  unfolding number
+  label_number s j i e =
+      ap (λ o. either_number o (number_at names labels labels_meant s.token)) (number_nowhere names values values_meant s.token (λ v h same. apart.both v s h i same))
+      ∙ ap (either_number None) e
 
   -- where no name is defined twice and each mention has a definition, names are looked up so
-  pub resolution : (cs : List Closing) → ((f : Fault) → IsAgain names ds f → ⊥) → (r : Resolution) × Resolves names ds ms cs r
-  resolution cs once = (
+  pub resolution : ((f : Fault) → IsAgain names values.definitions f → ⊥) → ((f : Fault) → IsAgain names labels.definitions f → ⊥)
+      → (r : Resolution) × Resolves names values r.definitions r.count × Resolves names labels r.definitions r.labels
+  resolution once one = (
     record {
       definitions = numbers;
-      count = length ds;
-      counts = record { operations = 0; regions = 0; labels = 0; mentions = 0 };
+      count = length values.definitions;
+      labels = length labels.definitions;
+      counts = record { operations = 0; regions = 0; mentions = 0 };
     },
     record {
       count = refl;
-      defined = λ apart j s at lt. at_token s.token lt ∙ number_defined apart j s at;
-      mentioned = λ apart i j m at means lt. at_token m.token lt ∙ number_mentioned once apart i j m at means;
-      resolved = λ i k m c at closes same. meant i m at;
+      defined = λ j s at lt. at_token s.token lt ∙ value_number s.token j (number_defined names values values_meant apart.values j s at);
+      mentioned = λ i j m at means lt. at_token m.token lt ∙ value_number m.token j (number_mentioned names values values_meant once apart.values i j m at means);
+      resolved = λ i k m c at closes same. values_meant i m at;
+    },
+    record {
+      count = refl;
+      defined = λ j s at lt. at_token s.token lt ∙ label_number s j (inl (j, at)) (number_defined names labels labels_meant apart.labels j s at);
+      mentioned = λ i j m at means lt. at_token m.token lt ∙ label_number m j (inr (i, at)) (number_mentioned names labels labels_meant one apart.labels i j m at means);
+      resolved = λ i k m c at closes same. labels_meant i m at;
     },
   )

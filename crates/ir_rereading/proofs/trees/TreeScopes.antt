@@ -13,7 +13,7 @@ use Rattle.ir_forest.specs.Forest.{ActionSpan, IsForestOf}
 use Rattle.ir_forest.specs.Meaning.{operations_in, renamed, all_renamed}
 use Rattle.ir_grammar.specs.Nesting.{at_root, at_end}
 use Rattle.ir_forest.specs.Progress.{Leads}
-use Rattle.ir_scopes.specs.Scopes.{beginning, definitions, mentions, closings, name_of, Means, IsAgain, IsUnresolvedName, SitesAreApart, IsResolved}
+use Rattle.ir_scopes.specs.Scopes.{beginning, definitions, mentions, closings, name_of, Means, IsAgain, IsUnresolvedName, IsResolved}
 use Rattle.ir_forest.specs.ValueFaults.{HasNamesFault}
 use Rattle.ir_rereading.proofs.trees.Closings.{mentions_end}
 use Rattle.ir_rereading.proofs.trees.TreeCounts.{forest_counts}
@@ -117,17 +117,17 @@ module _ (isolated : ℕ → Bool) (values : Values) (text : ℕ → List ℕ) (
 
   -- ---- from a text to its tree
 
-  module _ (names : List ℕ) (r : Resolution) (resolved : IsResolved isolated names es r) (apart : SitesAreApart (definitions isolated es) (mentions isolated es))
+  module _ (names : List ℕ) (r : Resolution) (resolved : IsResolved isolated names es r)
       (within : (s : Site) → In s (definitions isolated es) → s.token < length names) (within_too : (m : Site) → In m (mentions isolated es) → m.token < length names) where
     numbers_meant : AllMeant isolated es (slice_index r.definitions)
     numbers_meant m i =
         let c = mentions_end isolated es leads i.0 m i.1 in
-        let j = resolved.1.resolved i.0 c.0 m c.1 i.1 c.2 c.3 in
+        let j = resolved.values.resolved i.0 c.0 m c.1 i.1 c.2 c.3 in
         let d = j.1.0 in (
           d,
           (j.0, j.1.1),
           j.1.2.0,
-          resolved.1.defined apart j.0 d j.1.1 (within d (j.0, j.1.1)) ∙ sym (resolved.1.mentioned apart i.0 j.0 m i.1 j.1 (within_too m i)),
+          resolved.values.defined j.0 d j.1.1 (within d (j.0, j.1.1)) ∙ sym (resolved.values.mentioned i.0 j.0 m i.1 j.1 (within_too m i)),
         )
 
     -- Where the names of a text are looked up, its tree is scoped.
@@ -140,7 +140,7 @@ module _ (isolated : ℕ → Bool) (values : Values) (text : ℕ → List ℕ) (
         counted (definitions_of (renamed (slice_index r.definitions) tree)) 0 (λ j x at.
         (let found = get_map (slice_index r.definitions) (definitions_of tree) j x (subst (λ xs. slice_get xs j ≡ Some x) (definitions_renamed (slice_index r.definitions) tree) at) in
         let s = get_map (λ (s : Site). s.token) (definitions isolated es) j found.0 (subst (λ xs. slice_get xs j ≡ Some found.0) definition_tokens found.1) in
-        let is : slice_index r.definitions s.0.token ≡ j = resolved.1.defined apart j s.0 s.1 (within s.0 (j, s.1)) in
+        let is : slice_index r.definitions s.0.token ≡ j = resolved.values.defined j s.0 s.1 (within s.0 (j, s.1)) in
         let same : slice_index r.definitions s.0.token ≡ x = ap (slice_index r.definitions) s.2 ∙ found.2 in
         omega arith))
 

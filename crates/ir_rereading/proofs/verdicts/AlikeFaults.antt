@@ -13,12 +13,13 @@ use Rattle.ir_grammar.specs.Reading.{opens, depth_at, tooks, begins_member, Only
 use Rattle.ir_scopes.specs.Depth.{IsTooDeep}
 use Rattle.ir_forest.specs.Forest.{Deed, deeds, deeds_from, deeds_of, deeds_in, ending, end_of, ActionSpan, IsWholeStep, HasWholeTree}
 use Rattle.ir_forest.specs.ValueFaults.{results, HasNumberFault, HasNamesFault}
-use Rattle.ir_scopes.specs.Scopes.{EventPlace, beginning, behind, defined, labelled, mentioned, closed, each, definitions, mentions, closings, IsAgain, IsUnresolvedName, HasScopeFault}
+use Rattle.ir_scopes.specs.Scopes.{EventPlace, beginning, behind, defined, mentioned, closed, labelled, label_mentioned, label_closed, each, HasNameFault, HasScopeFault}
 use Rattle.ir_rereading.specs.Texts.{HasFault}
 use Rattle.ir_formats.specs.Words.{token_text}
 use Rattle.ir_forest.specs.Language.{Language}
 use Rattle.ir_scopes.proofs.Depths.{deep_stays}
 use Rattle.ir_scopes.proofs.ScopeFronts.{stays}
+use Rattle.ir_scopes.proofs.Walks.{same_names}
 
 begins_item : (a : Action) → begins_member a ≡ true → a ≡ BeginItem
 begins_item BeginItem h = refl
@@ -52,12 +53,14 @@ module _ {A : Type 0} (isolated : ℕ → Bool) (f : EventPlace → Event → Li
   each_front at (e ∷ a) b only = ap (λ xs. f at e ++ xs) (each_front (behind isolated at e) a b only)
 
 scopes_front : (isolated : ℕ → Bool) (names : List ℕ) (a b : List Event) (f : Fault) → OnlyBegins b → HasScopeFault isolated names (a ++ b) f → HasScopeFault isolated names a f
-scopes_front isolated names a b f only (inl h) = inl (subst (λ ds. IsAgain names ds f) (each_front isolated defined (λ at. refl) beginning a b only) h)
-scopes_front isolated names a b f only (inr (inl h)) = inr (inl (subst (λ ds. IsAgain names ds f) (each_front isolated labelled (λ at. refl) beginning a b only) h))
-scopes_front isolated names a b f only (inr (inr h)) = inr (inr (
-    subst (λ cs. IsUnresolvedName names (definitions isolated a) (mentions isolated a) cs f) (each_front isolated (closed isolated) (λ at. refl) beginning a b only)
-    (subst (λ ms. IsUnresolvedName names (definitions isolated a) ms (closings isolated (a ++ b)) f) (each_front isolated mentioned (λ at. refl) beginning a b only)
-    (subst (λ ds. IsUnresolvedName names ds (mentions isolated (a ++ b)) (closings isolated (a ++ b)) f) (each_front isolated defined (λ at. refl) beginning a b only) h))))
+scopes_front isolated names a b f only (inl h) = inl (subst (λ n. HasNameFault names n f) (same_names
+    (each_front isolated defined (λ at. refl) beginning a b only)
+    (each_front isolated mentioned (λ at. refl) beginning a b only)
+    (each_front isolated (closed isolated) (λ at. refl) beginning a b only)) h)
+scopes_front isolated names a b f only (inr h) = inr (subst (λ n. HasNameFault names n f) (same_names
+    (each_front isolated labelled (λ at. refl) beginning a b only)
+    (each_front isolated label_mentioned (λ at. refl) beginning a b only)
+    (each_front isolated (label_closed isolated) (λ at. refl) beginning a b only)) h)
 
 -- ---- trees
 

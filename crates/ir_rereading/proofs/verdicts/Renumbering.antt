@@ -25,7 +25,7 @@ use Rattle.ir_grammar.specs.Grammar.{accepted, accepts, Derives, Finished, Shift
 use Rattle.ir_grammar.specs.Reading.{through, tooks, IsMostly, Reads}
 use Rattle.ir_formats.specs.Rules.{words_of, may_be_name, takes, class_of, classes_of, plain_rules, plain_classes}
 use Rattle.ir_formats.specs.Words.{text_of, shape_kind, is_spelled, kind_of, AlikeInNumber}
-use Rattle.ir_scopes.specs.Scopes.{EventPlace, beginning, behind, last_token, defined, labelled, mentioned, each, definitions, labels, mentions, closings, name_of, SiteHasName, IsAgain, IsUnresolvedName}
+use Rattle.ir_scopes.specs.Scopes.{EventPlace, beginning, behind, last_token, defined, labelled, mentioned, label_mentioned, each, definitions, labels, mentions, closings, label_mentions, label_closings, name_of, SiteHasName, IsAgain, IsUnresolvedName}
 use Rattle.ir_rereading.specs.Texts.{IsReading, HasFault}
 use Rattle.ir_forest.specs.Language.{Language}
 use Rattle.ir_scopes.proofs.Apart.{get_append}
@@ -203,6 +203,9 @@ pub mentioned_own : IsOwn mentioned
 mentioned_own at act.Operand i s h = (refl, ap (λ x. x.token) (sym (one_site _ s i h)))
 mentioned_own at _ i s h = no_site s h
 
+label_mentioned_own : IsOwn label_mentioned
+label_mentioned_own at a i s h = no_site s h
+
 module _ (isolated : ℕ → Bool) (P : ℕ → Type 0) (f : EventPlace → Event → List Site) (took : (at : EventPlace) → f at Took ≡ []) (own : IsOwn f) where
   pub sites_at : (at : EventPlace) (es : List Event) → AllAt P at.tokens es → (i : ℕ) (s : Site) → slice_get (each isolated f at es) i ≡ Some s → P s.token
   sites_at at [] all i s h = no_site s h
@@ -249,11 +252,16 @@ renumbered l cs ts names numbers stop n es r two f h = go h
     marked : (i : ℕ) (s : Site) → slice_get (labels l.isolated es) i ≡ Some s → SpelledAt ts s.token
     marked = sites_at l.isolated (SpelledAt ts) labelled (λ at. refl) labelled_own beginning es all
 
+    meant : (i : ℕ) (s : Site) → slice_get (label_mentions l.isolated es) i ≡ Some s → SpelledAt ts s.token
+    meant = sites_at l.isolated (SpelledAt ts) label_mentioned (λ at. refl) label_mentioned_own beginning es all
+
     go : HasFault l cs ts names stop n es f → HasFault l cs ts numbers stop n es f
     go (inl x) = inl x
     go (inr (inl x)) = inr (inl x)
     go (inr (inr (inl x))) = inr (inr (inl x))
     go (inr (inr (inr (inl x)))) = inr (inr (inr (inl x)))
-    go (inr (inr (inr (inr (inl x))))) = inr (inr (inr (inr (inl (again_named cs ts names numbers r.alike two (definitions l.isolated es) f known x)))))
+    go (inr (inr (inr (inr (inl (inl x)))))) = inr (inr (inr (inr (inl (inl (again_named cs ts names numbers r.alike two (definitions l.isolated es) f known x))))))
+    go (inr (inr (inr (inr (inl (inr x)))))) = inr (inr (inr (inr (inl (inr (lacking_named cs ts names numbers r.alike two (definitions l.isolated es) (mentions l.isolated es) (closings l.isolated es) f known named x))))))
     go (inr (inr (inr (inr (inr (inl x)))))) = inr (inr (inr (inr (inr (inl (again_named cs ts names numbers r.alike two (labels l.isolated es) f marked x))))))
-    go (inr (inr (inr (inr (inr (inr x)))))) = inr (inr (inr (inr (inr (inr (lacking_named cs ts names numbers r.alike two (definitions l.isolated es) (mentions l.isolated es) (closings l.isolated es) f known named x))))))
+    go (inr (inr (inr (inr (inr (inr x)))))) =
+        inr (inr (inr (inr (inr (inr (lacking_named cs ts names numbers r.alike two (labels l.isolated es) (label_mentions l.isolated es) (label_closings l.isolated es) f marked meant x))))))

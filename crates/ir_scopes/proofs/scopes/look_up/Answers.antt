@@ -1,8 +1,8 @@
-use Rattle.std.proofs.Common.{◌≡◌, ◌<◌, length, slice_index, ap, sym, subst, ◌∙◌, Some, None, Vec}
+use Rattle.std.proofs.Common.{◌≡◌, length, ap, subst, ◌∙◌, Some, None, Vec, inl, inr}
 use Rattle.std.specs.Global.{Global}
 use Rattle.ir_tokens.specs.Faults.{IsNamed}
 use Rattle.ir_scopes.specs.declared.sites.Site.{Site}
-use Rattle.ir_scopes.specs.Scopes.{is_marked, Means, MeanNoted, HasScopeFault}
+use Rattle.ir_scopes.specs.Scopes.{is_marked, names_at, HasSiteFault, Resolves}
 use Rattle.ir_scopes.proofs.Resolving.{scope_fault, resolves, sites_apart}
 use Rattle.ir_scopes.proofs.scopes.look_up.Goals as goal
 
@@ -16,18 +16,18 @@ returns-in-Some-clause-resolved c =
 
 pub returns-clause-resolved : goal.returns-clause-resolved
 returns-clause-resolved c =
-    let isolated = is_marked c.args.isolated.now in
     let names = c.args.names in
     let s = c.in_ok-sites.sites in
+    let now = c.resolve.new.sites in
     let are = c.in_ok-sites.ensures in
-    let named = rw c.in-None.is at c.in_ok-fault.ensures.fault in
-    let none : IsNamed (HasScopeFault isolated names c.args.events.now) None = scope_fault isolated names c.args.events.now s are None named in
+    let done = c.in_ok-fault.ensures in
     let ps = c.resolve.new.places in
-    let many : length ps ≡ length names = c.in_ok-fault.ensures.many in
-    let mentioned : MeanNoted names s.definitions.items s.mentions.items ps = c.in_ok-fault.ensures.mentioned in
-    let count : length c.resolve.new.sites.definitions.items ≡ length s.definitions.items = ap (λ (v : Vec Site Global). length v.items) c.in_ok-fault.ensures.definitions in (
-      none,
-      resolves isolated names c.args.events.now s are none _ (c.len.ensures ∙ (c.resolve.new.sites.definitions.ok.0 ∙ count))
-          (λ apart j d at within. c.in_ok-fault.ensures.defined j d at (subst (λ n. d.token < n) (sym many) within))
-          (λ apart i j m at means within. mentioned i j m at means within),
-    )
+    let named : IsNamed (HasSiteFault names s) None = rw c.in-None.is at done.fault in
+    let values : length now.values.definitions.items ≡ length s.values.definitions.items = ap (λ (v : Vec Site Global). length v.items) done.definitions.0 in
+    let labels : length now.labels.definitions.items ≡ length s.labels.definitions.items = ap (λ (v : Vec Site Global). length v.items) done.definitions.1 in record {
+      faultless = scope_fault (is_marked c.args.isolated.now) names c.args.events.now s are None named;
+      values = subst (λ n. Resolves names n ps c.len.result) are.values
+          (resolves names (names_at s.values) ps c.len.result (λ f h. named f (inl h)) (c.len.ensures ∙ (now.values.definitions.ok.0 ∙ values)) done.many done.values);
+      labels = subst (λ n. Resolves names n ps c.len-in-None.result) are.labels
+          (resolves names (names_at s.labels) ps c.len-in-None.result (λ f h. named f (inr h)) (c.len-in-None.ensures ∙ (now.labels.definitions.ok.0 ∙ labels)) done.many done.labels);
+    }

@@ -1,34 +1,38 @@
-use Rattle.std.proofs.Common.{◌<◌, sym, subst}
-use Rattle.ir_scopes.specs.Scopes.{Means}
-use Rattle.ir_scopes.proofs.Lacking.{is_lacking}
-use Rattle.ir_scopes.proofs.Resolving.{merged}
+use Rattle.std.proofs.Common.{◌<◌, sym, subst, ◌∙◌, inl, inr}
+use Rattle.ir_tokens.proofs.FirstFault.{first_of_law}
+use Rattle.ir_scopes.specs.Scopes.{Means, names_at, HasNameFault, HasSiteFault}
+use Rattle.ir_scopes.proofs.NamesAlike.{AreAlike, means_alike, named_alike}
 use Rattle.ir_scopes.proofs.scopes.resolve.Goals as goal
-
-pub look_up_mentions-requires : goal.look_up_mentions-requires
-look_up_mentions-requires c = rw (c.deref-2.ensures.value, c.deref_mut.ensures.value) c.requires
 
 pub returns-clause-fault : goal.returns-clause-fault
 returns-clause-fault c =
     let names = c.args.places.now in
     let s = c.args.sites.now in
-    let faults = c.in_ok-faults.faults in
-    let ends = c.lacking_fault-unresolved.result in
-    let labels = rw c.deref.ensures.value at c.in_ok-labels.ensures in
-    let again = rw c.deref-2.ensures.value at c.in_ok-faults.ensures.again in
-    let lacks = rw (c.deref-2.ensures.value, c.deref_mut.ensures.value) at c.in_ok-faults.ensures.lacking in
-    let ended = rw c.deref-4.ensures.value at c.lacking_fault-unresolved.ensures in
-    merged names s faults.again c.in_ok-labels.labels ends c.first_of.result c.first_of-2.result again labels
-    (is_lacking names s.definitions.items s.mentions.items faults.lacking lacks s.closings.items ends ended) c.first_of.ensures c.first_of-2.ensures
+    let first = c.in_ok-values.ensures in
+    let second = c.in_ok-labels.ensures in
+    let alike : AreAlike c.resolve_names.new.places names (names_at s.labels) = λ t i. first.kept t.token (λ v j e. c.requires.both v t j i e) in
+    first_of_law (HasNameFault names (names_at s.values)) (HasNameFault names (names_at s.labels)) (HasSiteFault names s) c.in_ok-values.values c.in_ok-labels.labels c.first_of.result
+    (λ f x. x) (λ f x. inl x) (λ f x. inr x) first.fault (named_alike c.resolve_names.new.places names (names_at s.labels) alike c.in_ok-labels.labels second.fault) c.first_of.ensures
 
-pub returns-clause-defined : goal.returns-clause-defined
-returns-clause-defined c = λ j d at within.
-    let written = rw c.deref-3.ensures.value at c.in_ok-note_definitions.ensures.noted in
-    written c.requires.definitions j d at (subst (λ n. d.token < n) c.in_ok-note_definitions.ensures.many within)
-
-pub returns-clause-mentioned : goal.returns-clause-mentioned
-returns-clause-mentioned c = λ i j m at means within.
+pub returns-clause-values : goal.returns-clause-values
+returns-clause-values c =
     let s = c.args.sites.now in
-    let noted = rw (c.deref-2.ensures.value, c.deref_mut.ensures.value) at c.in_ok-faults.ensures.noted in
-    let kept = rw c.deref-3.ensures.value at c.in_ok-note_definitions.ensures.kept in
-    let stays = kept m.token (λ k d there e. c.requires.both k i d m there at e) in
-    subst (Means c.args.places.now s.definitions.items m) (sym stays) (noted i j m at means within)
+    let first = c.in_ok-values.ensures in
+    let second = c.in_ok-labels.ensures in record {
+      defined = λ j d at within. second.kept d.token (λ t i e. c.requires.both d t (inl (j, at)) i (sym e)) ∙ first.defined j d at (subst (λ n. d.token < n) second.many within);
+      mentioned = λ i j m at means within. subst (Means c.args.places.now (names_at s.values).definitions m)
+          (sym (second.kept m.token (λ t k e. c.requires.both m t (inr (i, at)) k (sym e)))) (first.mentioned i j m at means within);
+    }
+
+pub returns-clause-labels : goal.returns-clause-labels
+returns-clause-labels c =
+    let names = c.args.places.now in
+    let n = names_at c.args.sites.now.labels in
+    let first = c.in_ok-values.ensures in
+    let second = c.in_ok-labels.ensures in
+    let now = c.resolve_names.new.places in
+    let alike : AreAlike now names n = λ t i. first.kept t.token (λ v j e. c.requires.both v t j i e) in
+    let back : AreAlike names now n = λ t i. sym (alike t i) in record {
+      defined = second.defined;
+      mentioned = λ i j m at means within. means_alike now names n alike i _ m at (second.mentioned i j m at (means_alike names now n back i j m at means) (subst (λ k. m.token < k) (sym first.many) within));
+    }

@@ -1,7 +1,7 @@
 use Rattle.std.proofs.Common.{get_or, arith}
 use Rattle.ir_grammar.specs.declared.grammar.Event.TheVariants.{Took}
-use Rattle.ir_scopes.specs.Scopes.{is_marked, defined, labelled, mentioned, closed, place_of}
-use Rattle.ir_scopes.proofs.Walks.{each_step, each_all, events_behind}
+use Rattle.ir_scopes.specs.Scopes.{is_marked, defined, mentioned, closed, labelled, label_mentioned, label_closed, place_of}
+use Rattle.ir_scopes.proofs.Walks.{each_step, each_all, events_behind, same_names}
 use Rattle.ir_scopes.proofs.sites.sites_of.Goals as goal
 
 pub loop-event-preserved : goal.loop-event-preserved
@@ -18,9 +18,11 @@ loop-event-preserved c =
     record {
       events = omega arith;
       definitions = each_step isolated defined at after es i Took _ _ _ c.loop-event-test.true added.walk added.definitions now.definitions;
-      labels = each_step isolated labelled at after es i Took _ _ _ c.loop-event-test.true added.walk added.labels now.labels;
       mentions = each_step isolated mentioned at after es i Took _ _ _ c.loop-event-test.true added.walk added.mentions now.mentions;
       closings = each_step isolated (closed isolated) at after es i Took _ _ _ c.loop-event-test.true added.walk added.closings now.closings;
+      labels = each_step isolated labelled at after es i Took _ _ _ c.loop-event-test.true added.walk added.labels now.labels;
+      label_mentions = each_step isolated label_mentioned at after es i Took _ _ _ c.loop-event-test.true added.walk added.label_mentions now.label_mentions;
+      label_closings = each_step isolated (label_closed isolated) at after es i Took _ _ _ c.loop-event-test.true added.walk added.label_closings now.label_closings;
     }
 
 pub returns : goal.returns
@@ -31,8 +33,12 @@ returns c =
     let at = place_of c.loop-event.walker in
     let now = c.loop-event.invariant in
     record {
-      definitions = each_all isolated defined at es i _ _ c.loop-event-test.false now.definitions;
-      labels = each_all isolated labelled at es i _ _ c.loop-event-test.false now.labels;
-      mentions = each_all isolated mentioned at es i _ _ c.loop-event-test.false now.mentions;
-      closings = each_all isolated (closed isolated) at es i _ _ c.loop-event-test.false now.closings;
+      values = same_names
+          (each_all isolated defined at es i _ _ c.loop-event-test.false now.definitions)
+          (each_all isolated mentioned at es i _ _ c.loop-event-test.false now.mentions)
+          (each_all isolated (closed isolated) at es i _ _ c.loop-event-test.false now.closings);
+      labels = same_names
+          (each_all isolated labelled at es i _ _ c.loop-event-test.false now.labels)
+          (each_all isolated label_mentioned at es i _ _ c.loop-event-test.false now.label_mentions)
+          (each_all isolated (label_closed isolated) at es i _ _ c.loop-event-test.false now.label_closings);
     }

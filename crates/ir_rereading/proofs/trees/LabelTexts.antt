@@ -1,0 +1,62 @@
+-- The labels of a tree are those of its text, in the same order.
+use Rattle.std.proofs.Common.{◌≡◌, ℕ, Bool, List, [], ◌∷◌, ◌++◌, map, refl, sym, ap, ◌∙◌}
+use Rattle.ir_names.specs.Tree.{Trees}
+use Rattle.ir_print.specs.Pieces.{Values, operation, a_region, block, Entity, entity, Entities, no_entity, an_entity}
+use Rattle.ir_grammar.specs.declared.grammar.Event.{Event}
+use Rattle.ir_scopes.specs.declared.sites.Site.{Site}
+use Rattle.ir_forest.specs.Closed.{label_in}
+use Rattle.ir_forest.specs.Forest.{ActionSpan, IsForestOf}
+use Rattle.ir_forest.specs.Meaning.{operations_in}
+use Rattle.ir_grammar.specs.Nesting.{Nests, at_root}
+use Rattle.ir_scopes.specs.Scopes.{labels}
+use Rattle.ir_rereading.proofs.trees.TreeRegions.{OfOperations, OfRegions, OfBlocks, labels_of_tree}
+
+-- the labels of all blocks in entities, in the order of the text
+abbrev pub all_labels : Entities ℕ → List (List ℕ)
+all_labels no_entity = []
+all_labels (an_entity (entity h us) ts) = label_in h ++ (all_labels us ++ all_labels ts)
+
+map_append : {X Y : Type 0} (f : X → Y) (xs ys : List X) → map f (xs ++ ys) ≡ map f xs ++ map f ys
+map_append f [] ys = refl
+map_append f (x ∷ xs) ys = ap (λ zs. f x ∷ zs) (map_append f xs ys)
+
+module _ (text : ℕ → List ℕ) where
+  -- what is spelled at sites
+  abbrev spelled : List Site → List (List ℕ)
+  spelled ss = map (λ s. text s.token) ss
+
+  both : (ls ms : List (List ℕ)) (first more ss : List Site) → ss ≡ first ++ more → ls ≡ spelled first → ms ≡ spelled more → ls ++ ms ≡ spelled ss
+  both ls ms first more ss e a b =
+      ap (λ xs. xs ++ ms) a ∙ (ap (λ xs. spelled first ++ xs) b ∙ (sym (map_append (λ s. text s.token) first more) ∙ ap spelled (sym e)))
+
+  mutual
+    operation_labels : (low high : ℕ) (ts : Entities ℕ) (ss : List Site) → OfOperations text low high ts ss → all_labels ts ≡ spelled ss
+    operation_labels low high no_entity ss h = ap spelled (sym h.1)
+    operation_labels low high (an_entity (entity (operation kind results used pieces) us) ts) ss (a, b, c, first, more, e, le, between, here, later) =
+        both (all_labels us) (all_labels ts) first more ss e (region_labels a b us first here) (operation_labels c high ts more later)
+    operation_labels low high (an_entity (entity a_region us) ts) ss h = absurd h
+    operation_labels low high (an_entity (entity (block label arguments) us) ts) ss h = absurd h
+
+    region_labels : (low high : ℕ) (ts : Entities ℕ) (ss : List Site) → OfRegions text low high ts ss → all_labels ts ≡ spelled ss
+    region_labels low high no_entity ss h = ap spelled (sym h.1)
+    region_labels low high (an_entity (entity a_region us) ts) ss (scope, b, c, first, more, e, lt, between, here, later) =
+        both (all_labels us) (all_labels ts) first more ss e (block_labels scope scope b us first here) (region_labels c high ts more later)
+    region_labels low high (an_entity (entity (operation kind results used pieces) us) ts) ss h = absurd h
+    region_labels low high (an_entity (entity (block label arguments) us) ts) ss h = absurd h
+
+    block_labels : (scope low high : ℕ) (ts : Entities ℕ) (ss : List Site) → OfBlocks text scope low high ts ss → all_labels ts ≡ spelled ss
+    block_labels scope low high no_entity ss h = ap spelled (sym h.1)
+    block_labels scope low high (an_entity (entity (block label arguments) us) ts) ss (a, b, c, first, more, k, at, e, lt, between, here, later) =
+        ap (λ (x : List ℕ). x ∷ (all_labels us ++ all_labels ts)) at
+        ∙ (ap (λ (xs : List (List ℕ)). text k ∷ xs) (both (all_labels us) (all_labels ts) first more (first ++ more) refl (operation_labels a b us first here) (block_labels scope c high ts more later))
+        ∙ ap spelled (sym e))
+    block_labels scope low high (an_entity (entity a_region us) ts) ss h = absurd h
+    block_labels scope low high (an_entity (entity (operation kind results used pieces) us) ts) ss h = absurd h
+
+module _ (isolated : ℕ → Bool) (v : Values) (text : ℕ → List ℕ) (es : List Event) (forest : Trees ActionSpan) (tree : Entity ℕ)
+    (nests : Nests at_root [] es) (is : IsForestOf es forest) (says : operations_in v text [] forest ≡ an_entity tree no_entity) where
+  -- The labels of a tree are spelled at those of its text, in the same order.
+  pub tree_labels : all_labels (an_entity tree no_entity) ≡ map (λ s. text s.token) (labels isolated es)
+  tree_labels =
+      let r = labels_of_tree isolated v text es forest tree nests is says in
+      operation_labels text 0 r.0 (an_entity tree no_entity) (labels isolated es) r.1
