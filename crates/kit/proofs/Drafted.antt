@@ -1,5 +1,5 @@
 -- What operations are made with, of their parts.
-use Rattle.std.proofs.Common.{◌≡◌, ℕ, ◌+◌, Bool, true, false, cond, ◌&&◌, ◌⊎◌, inl, inr, List, [], ◌∷◌, Option, Some, None, option_map, option_and_then, nat_le, nat_lt, ◌==◌, ◌^◌, refl, sym, ap, ◌∙◌, subst, arith}
+use Rattle.std.proofs.Common.{◌≡◌, ℕ, ◌+◌, Bool, true, false, cond, ◌&&◌, ◌⊎◌, inl, inr, List, [], ◌∷◌, length, Option, Some, None, option_map, option_and_then, nat_le, nat_lt, ◌==◌, ◌^◌, refl, sym, ap, ◌∙◌, subst, arith}
 use Rattle.std.proofs.lemmas.Bool.{and_parts, eqb-true, leb-true, lt-ltb}
 use Rattle.std.specs.List.{slice_get}
 use Rattle.ir_base.specs.declared.types.TypeHandle.{TypeHandle}
@@ -11,8 +11,8 @@ use Rattle.ir_print.specs.declared.format.Part.{Part}
 use Rattle.ir_print.specs.Pieces.{list, item, number, width, type_of_kind, attribute_of_kind, region, name, operands, ValueTree, Pieces}
 use Rattle.ir_print.specs.Shown.{Said, said_width, said_type, said_attribute, Shows, Pairs, said_name, said_region, said_operands, leaf, ShowsAll, ShowsPart, ShowsType}
 use Rattle.kit_ops.specs.declared.kinds.KitOp.{KitOp}
-use Rattle.kit_ops.specs.Keys.{symbol_name, function_type, constant_value}
-use Rattle.kit.specs.Forms.{OpForm, NamedRegion, TypedRegion, Value, TwoOperands, OneOperand, AnyOperands}
+use Rattle.kit_ops.specs.Keys.{symbol_name, function_type, constant_value, callee, callee_type}
+use Rattle.kit.specs.Forms.{OpForm, NamedRegion, TypedRegion, Value, TwoOperands, OneOperand, AnyOperands, Empty, Called}
 use Rattle.kit_ops.specs.declared.types.IntegerType.{IntegerType}
 use Rattle.kit_ops.specs.declared.types.KitType.{KitType}
 use Rattle.kit_ops.specs.declared.types.KitType.TheVariants as keys
@@ -21,12 +21,13 @@ use Rattle.kit_ops.specs.declared.attributes.KitAttr.{KitAttr}
 use Rattle.kit_ops.specs.declared.attributes.KitAttr.TheVariants as attrs
 use Rattle.kit.specs.Parts.{type_part, name_part, region_part, attribute_part, operands_part, is_one_operand, integer_of}
 use Rattle.kit.specs.Numbers.{printed_number}
-use Rattle.kit.specs.Says.{says, one, two, only, has_values, integer_said, said_of_attribute, integer_types, is_attribute, is_name, is_type, is_region, are_operands, is_operand, refused_unless, refused_in}
-use Rattle.kit.specs.Making.{one_integer, module_name, function_header, one_operands, pair_type, FormDrafts, MakesForm, RefusesForm}
+use Rattle.kit.specs.Says.{says, one, two, only, has_values, integer_said, said_of_attribute, integer_types, is_attribute, is_name, is_type, is_region, are_operands, is_operand, call_said, refused_unless, refused_in}
+use Rattle.kit.specs.Making.{one_integer, module_name, function_header, one_operands, pair_type, call_header, returned_by, FormDrafts, MakesForm, RefusesForm}
 use Rattle.kit.specs.Readable.{constant_said_so}
 use Rattle.kit.specs.Seen.{seen}
 use Rattle.kit.proofs.Shapes.{name_shown, not_name, region_shown, not_region, type_shown, not_type, operands_shown, not_operands, operand_shown, not_operand, one_shown, two_shown, three_shown, not_one, not_two, not_three_pieces, attribute_shown}
 use Rattle.kit.proofs.Made.{and_false}
+use Rattle.kit.proofs.Returned.{returned_shown}
 
 abbrev name_piece : List ℕ → Said KitAttr
 name_piece cs = said_name cs
@@ -254,3 +255,37 @@ module _ {D : Type 0} where
 
   pub operand_refused : (parts : List (Part D KitOp KitAttr KitType)) (types : List KitType) → (one_operands parts ≡ Some 1 → ⊥) → RefusesForm OneOperand parts types 0
   operand_refused parts types e = λ ps h. ap (λ (b : Bool). refused_unless b 0) (not_one says types is_operand parts ps h (λ p t f s. no_operand types p t (λ g. e (ap one_operands f ∙ g)) s))
+
+  -- no parts give an operation with one result, of the unit type
+  pub empty_made : (parts : List (Part D KitOp KitAttr KitType)) (old new : List KitType) (ty : TypeHandle) → length parts ≡ 0 → slice_get new ty.number ≡ Some keys.Unit → MakesForm Empty parts old new [] (ty ∷ [])
+  empty_made [] old new ty e k no_tree h = (refl, record { pieces = no_tree; said = refl; shown = tt; typed = ((ty, keys.Unit, no_tree, refl, k, refl, tt), tt) })
+  empty_made [] old new ty e k (a_tree t ts) h = absurd h
+  empty_made (p ∷ rs) old new ty e k ps h = cc
+
+  pub empty_refused : (parts : List (Part D KitOp KitAttr KitType)) (types : List KitType) → (parts ≡ [] → ⊥) → RefusesForm Empty parts types 0
+  empty_refused [] types e ps h = absurd (e refl)
+  empty_refused (p ∷ rs) types e no_tree h = absurd h
+  empty_refused (p ∷ rs) types e (a_tree t ts) h = refl
+
+  pub call_made : (parts : List (Part D KitOp KitAttr KitType)) (id copy : Identifier) (ty : TypeHandle) (types : List KitType) → call_header parts ≡ Some (id, ty) → text_of copy ≡ text_of id →
+      MakesForm Called parts types types ((callee, attrs.Identifier copy) ∷ (callee_type, attrs.«Type» ty) ∷ []) (returned_by (slice_get types ty.number))
+  call_made [] id copy ty types e f = cc
+  call_made (p ∷ []) id copy ty types e f = cc
+  call_made (p ∷ q ∷ []) id copy ty types e f = cc
+  call_made (p ∷ q ∷ r ∷ s ∷ rs) id copy ty types e f = cc
+  call_made (p ∷ q ∷ r ∷ []) id copy ty types e f = λ ps h.
+      let pieces = three_shown says types p q r ps h in
+      let parts = all_three (name_part p) (type_part r) (operands_part q) id ty e in
+      let first = name_shown says types p id pieces.0 parts.1 pieces.4 in
+      let second = operands_shown says types q parts.0 pieces.1 parts.3 pieces.5 in
+      let third = type_shown says types r ty pieces.2 parts.2 pieces.6 in
+      let text : name_piece (text_of copy) ≡ name_piece first.0 = ap said_name (f ∙ first.3) in
+      let same : parts.0 + 0 ≡ parts.0 = omega arith in
+      subst (λ (qs : Pieces). (refused_in Called qs ≡ None) × FormDrafts Called types qs ((callee, attrs.Identifier copy) ∷ (callee_type, attrs.«Type» ty) ∷ []) (returned_by (slice_get types ty.number)))
+      (sym (pieces.3 ∙ (ap (λ t. a_tree t (a_tree pieces.1 (a_tree pieces.2 no_tree))) first.2 ∙ (ap (λ t. a_tree (node (name first.0) first.1) (a_tree t (a_tree pieces.2 no_tree))) second.1 ∙ ap (λ t. a_tree (node (name first.0) first.1) (a_tree (node (operands parts.0) second.0) (a_tree t no_tree))) third.2))))
+      (refl, record { pieces = call_said (text_of copy) ty (parts.0 + 0); said = refl; shown = (ap leaf text, (ap (λ (i : ℕ). leaf (said_operands i)) same, (third.3, tt))); typed = returned_shown types ty third.0 third.1 third.3 })
+
+  pub call_refused : (parts : List (Part D KitOp KitAttr KitType)) (types : List KitType) → call_header parts ≡ None → RefusesForm Called parts types 0
+  call_refused parts types e = λ ps h. ap (λ (b : Bool). refused_unless b 0) (not_three_pieces says types is_name are_operands is_type parts ps h
+      (λ p q r t u v f s s' s''. and_false (is_name t) (are_operands u && is_type v) (elim (not_three (name_part p) (type_part r) (operands_part q) (sym (ap call_header f) ∙ e))
+      [ inl g ↦ inl (not_name says types p t g s) | inr g ↦ inr (and_false (are_operands u) (is_type v) (elim g [ inl k ↦ inr (not_type says types r v k s'') | inr k ↦ inl (not_operands says types q u k s') ])) ])))

@@ -1,5 +1,5 @@
--- Equal keys of integer types are the same.
-use Rattle.std.proofs.Common.{◌≡◌, ℕ, true, ap, arith}
+-- Equal keys of integer types, and of the unit type, are the same.
+use Rattle.std.proofs.Common.{◌≡◌, ℕ, true, refl, ap, arith}
 use Rattle.std.proofs.lemmas.Bool.Decides.{nat_tests}
 use Rattle.ir_names.specs.declared.kinds.Signedness.{Signedness}
 use Rattle.ir_names.specs.declared.kinds.Signedness.TheVariants.{Signless, Signed, Unsigned}
@@ -28,3 +28,9 @@ pub equal_key : (i : IntegerType) (k : KitType) → (of_keys.ghosts).eq (keys.In
 equal_key i (keys.Integer j) h = ap keys.Integer (equal_fields i.signedness j.signedness i.width j.width h)
 equal_key i (keys.Function f) h = cc
 equal_key i keys.Unit h = cc
+
+-- a key that equals that of the unit type is that key
+pub equal_unit : (k : KitType) → (of_keys.ghosts).eq keys.Unit k ≡ true → k ≡ keys.Unit
+equal_unit (keys.Integer j) h = cc
+equal_unit (keys.Function f) h = cc
+equal_unit keys.Unit h = refl

@@ -9,4 +9,5 @@ pub mod Moved
 pub mod Numbered
 pub mod Parted
 pub mod Printed
+pub mod Returned
 pub mod Shapes

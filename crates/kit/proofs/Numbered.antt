@@ -51,9 +51,9 @@ numbered_at n said = option_map {U = ℕ × Trees (Said KitAttr)} (λ us. (n, us
 is_kind : (x kind : KitOp) → Some x ≡ Some kind → number_of kind ≡ number_of x
 is_kind x kind e = let same : kind ≡ x = cc in ap number_of same
 
-of_operator : (kind : KitOp) (n : ℕ) → operators.operator_number kind ≡ Some n → number_of kind ≡ Some (suc (suc (suc (suc (suc n)))))
-of_operator (ops.Arithmetic a) n e = let same : arithmetic_number a ≡ n = cc in ap (λ m. Some (suc (suc (suc (suc (suc m)))))) same
-of_operator (ops.Comparison c) n e = let same : comparison_number c ≡ n = cc in ap (λ m. Some (suc (suc (suc (suc (suc m)))))) same
+of_operator : (kind : KitOp) (n : ℕ) → operators.operator_number kind ≡ Some n → number_of kind ≡ Some (suc (suc (suc (suc (suc (suc (suc n)))))))
+of_operator (ops.Arithmetic a) n e = let same : arithmetic_number a ≡ n = cc in ap (λ m. Some (suc (suc (suc (suc (suc (suc (suc m)))))))) same
+of_operator (ops.Comparison c) n e = let same : comparison_number c ≡ n = cc in ap (λ m. Some (suc (suc (suc (suc (suc (suc (suc m)))))))) same
 of_operator _ n e = cc
 
 op_number : (n : ℕ) (kind : KitOp) → slice_get read_ops n ≡ Some kind → number_of kind ≡ Some n
@@ -62,17 +62,21 @@ op_number (suc zero) kind e = is_kind ops.Func kind e
 op_number (suc (suc zero)) kind e = is_kind ops.Constant kind e
 op_number (suc (suc (suc zero))) kind e = is_kind ops.Return kind e
 op_number (suc (suc (suc (suc zero)))) kind e = is_kind ops.Emit kind e
-op_number (suc (suc (suc (suc (suc n))))) kind e = of_operator kind n (operators.numbered n kind e)
+op_number (suc (suc (suc (suc (suc zero))))) kind e = is_kind ops.ForwardRef kind e
+op_number (suc (suc (suc (suc (suc (suc zero)))))) kind e = is_kind ops.Call kind e
+op_number (suc (suc (suc (suc (suc (suc (suc n))))))) kind e = of_operator kind n (operators.numbered n kind e)
 
--- the kinds behind the first five are the operators
-pub operators_behind : (n : ℕ) → 5 ≤ n → slice_get read_ops n ≡ slice_get kinds.operators (n - 5)
+-- the kinds behind the first seven are the operators
+pub operators_behind : (n : ℕ) → 7 ≤ n → slice_get read_ops n ≡ slice_get kinds.operators (n - 7)
 operators_behind zero h = absurd (omega (arith, h))
 operators_behind (suc zero) h = absurd (omega (arith, h))
 operators_behind (suc (suc zero)) h = absurd (omega (arith, h))
 operators_behind (suc (suc (suc zero))) h = absurd (omega (arith, h))
 operators_behind (suc (suc (suc (suc zero)))) h = absurd (omega (arith, h))
-operators_behind (suc (suc (suc (suc (suc n))))) h =
-    let same : n ≡ suc (suc (suc (suc (suc n)))) - 5 = omega arith in ap (slice_get kinds.operators) same
+operators_behind (suc (suc (suc (suc (suc zero))))) h = absurd (omega (arith, h))
+operators_behind (suc (suc (suc (suc (suc (suc zero)))))) h = absurd (omega (arith, h))
+operators_behind (suc (suc (suc (suc (suc (suc (suc n))))))) h =
+    let same : n ≡ suc (suc (suc (suc (suc (suc (suc n)))))) - 7 = omega arith in ap (slice_get kinds.operators) same
 
 -- what is said of a kind with a number is said of its form
 refused_so : (n : ℕ) (ps : Pieces) (kind : KitOp) (form : OpForm) → slice_get read_ops n ≡ Some kind → form_of kind ≡ Some form → refused_operation n ps ≡ refused_in form ps

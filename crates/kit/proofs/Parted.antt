@@ -15,7 +15,7 @@ use Rattle.ir_print.specs.declared.format.Part.TheVariants as part
 use Rattle.ir_print.specs.Pieces.{ValueTree, Pieces}
 use Rattle.ir_print.specs.Shown.{Said, said_type, said_attribute, said_list, said_item, said_region, said_name, said_operands, leaf, ShowsAll, ShowsPart, ShowsParts, ShowsMember, ShowsMembers, ShowsKey}
 use Rattle.kit_ops.specs.declared.kinds.KitOp.{KitOp}
-use Rattle.kit_ops.specs.Keys.{symbol_name, function_type, constant_value}
+use Rattle.kit_ops.specs.Keys.{symbol_name, function_type, constant_value, callee, callee_type}
 use Rattle.ir_program.specs.Program.{Program, TypedValue, OperationView, operation_at, results_at, type_in}
 use Rattle.ir_program.specs.Rows.{operands_at}
 use Rattle.ir_program.specs.declared.handles.Ptr.{Ptr}
@@ -24,17 +24,17 @@ use Rattle.ir_context.specs.Kept.{kind_at, notes_at}
 use Rattle.ir_context.specs.declared.notes.OperationData.{OperationData}
 use Rattle.ir_context.specs.declared.notes.OperationNotes.{OperationNotes}
 use Rattle.text_dialect.specs.Seen.{SeenOperation, seen_operation, types_of}
-use Rattle.kit.specs.Forms.{OpForm, NamedRegion, TypedRegion, Value, TwoOperands, OneOperand, AnyOperands, form_of, number_of}
+use Rattle.kit.specs.Forms.{OpForm, NamedRegion, TypedRegion, Value, TwoOperands, OneOperand, AnyOperands, Empty, Called, form_of, number_of}
 use Rattle.kit_ops.specs.declared.types.KitType.{KitType}
 use Rattle.kit_ops.specs.declared.types.KitType.TheVariants as keys
 use Rattle.kit_ops.specs.declared.types.FunctionType.{FunctionType}
 use Rattle.kit_ops.specs.declared.attributes.IntegerAttr.{IntegerAttr}
 use Rattle.kit_ops.specs.declared.attributes.KitAttr.{KitAttr}
 use Rattle.kit_ops.specs.declared.attributes.KitAttr.TheVariants as attrs
-use Rattle.kit.specs.Parts.{IsTypeList, AreModuleParts, AreFunctionParts}
-use Rattle.kit.specs.Says.{says, one, two, types_said, said_in, said_of_operation, said_of_module, said_of_function, said_of_constant, said_of_pair, pair_said}
+use Rattle.kit.specs.Parts.{IsTypeList, AreModuleParts, AreFunctionParts, AreCallParts}
+use Rattle.kit.specs.Says.{says, one, two, types_said, said_in, said_of_operation, said_of_module, said_of_function, said_of_constant, said_of_pair, pair_said, said_of_call, call_said}
 use Rattle.kit.specs.Readable.{only_if, is_numbered, constant_says}
-use Rattle.kit.specs.Seen.{SeenPiece, seen, first_seen, one_seen, two_seen, three_seen}
+use Rattle.kit.specs.Seen.{SeenPiece, seen, none_seen, first_seen, one_seen, two_seen, three_seen}
 
 -- what follows for each value follows for that of a result
 pub if_ok : {X E : Type 0} (r : Result X E) (P Q : X → Type 0) → IfOk r P → ((x : X) → P x → Q x) → IfOk r Q
@@ -226,3 +226,27 @@ module _ {D : Type 0} (types : List KitType) where
       let said = only_if (length entries == 0 && count == 1) (Some (one (leaf (said_operands 1)))) us e in
       let one_only : count ≡ 1 = eqb-true count 1 (and_parts (length entries == 0) (count == 1) said.0).1 in
       operands_said_parted 1 parts us ps (are ∙ ap (λ (n : ℕ). part.Operands n ∷ []) one_only) said.1 h
+
+  -- what a call says
+  call_said_parted : (o p : Option KitAttr) (count : ℕ) (parts : List (Part D KitOp KitAttr KitType)) (us : Trees (Said KitAttr)) (ps : Pieces) → AreCallParts o p count parts → said_of_call o p count ≡ Some us → ShowsAll says types us ps → ShowsParts says types parts ps
+  call_said_parted (Some (attrs.Identifier id)) (Some (attrs.«Type» ty)) count parts us ps are e h =
+      let shown = subst (λ (vs : Trees (Said KitAttr)). ShowsAll says types vs ps) (sym (same_Some (call_said (text_of id) ty count) us e)) h in
+      let pieces = three_seen says types (leaf (said_name (text_of id))) (leaf (said_operands count)) (leaf (said_type ty)) ps shown in
+      let is : parts ≡ part.Name are.1.0 ∷ part.Operands count ∷ part.Type ty ∷ [] = are.2 ∙ ap (λ qs. qs ++ part.Operands count ∷ part.Type ty ∷ []) are.1.2 in
+      subst (λ qs. ShowsParts says types qs ps) (sym is) (subst (λ (qs : Pieces). ShowsParts {D = D} says types (part.Name are.1.0 ∷ part.Operands count ∷ part.Type ty ∷ []) qs) (sym pieces.3)
+      (name_parted D types id are.1.0 pieces.0 are.1.1 pieces.4, (operands_parted D types count pieces.1 pieces.5, (type_parted D types ty pieces.2 pieces.6, tt))))
+  call_said_parted (Some (attrs.Identifier id)) other count parts us ps are e h = absurd (none-some us e)
+  call_said_parted other p count parts us ps are e h = absurd (none-some us e)
+
+  pub called_parted : (entries : List (List ℕ × KitAttr)) (count : ℕ) (tys : List TypeHandle) (parts : List (Part D KitOp KitAttr KitType)) (us : Trees (Said KitAttr)) (ps : Pieces) → AreCallParts (attribute_at entries callee) (attribute_at entries callee_type) count parts →
+      said_in Called entries count tys ≡ Some us → ShowsAll says types us ps → ShowsParts says types parts ps
+  called_parted entries count tys parts us ps are e h = call_said_parted (attribute_at entries callee) (attribute_at entries callee_type) count parts us ps are
+      (only_if (length entries == 2) (said_of_call (attribute_at entries callee) (attribute_at entries callee_type) count) us e).1 h
+
+  -- what an operation with nothing behind its name says
+  pub empty_parted : (entries : List (List ℕ × KitAttr)) (count : ℕ) (tys : List TypeHandle) (parts : List (Part D KitOp KitAttr KitType)) (us : Trees (Said KitAttr)) (ps : Pieces) → parts ≡ [] →
+      said_in Empty entries count tys ≡ Some us → ShowsAll says types us ps → ShowsParts says types parts ps
+  empty_parted entries count tys parts us ps is e h =
+      let said = only_if (length entries == 0 && count == 0) (Some no_tree) us e in
+      let shown = subst (λ (vs : Trees (Said KitAttr)). ShowsAll says types vs ps) (sym (same_Some no_tree us said.1)) h in
+      subst (λ qs. ShowsParts says types qs ps) (sym is) (subst (λ (qs : Pieces). ShowsParts {D = D} says types [] qs) (sym (none_seen says types ps shown)) tt)

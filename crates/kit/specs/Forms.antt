@@ -19,6 +19,10 @@ pub data OpForm : Type 0 where
   Value : OpForm
   -- two operands and the type of the result; one operand; any number of them
   TwoOperands OneOperand AnyOperands : OpForm
+  -- nothing
+  Empty : OpForm
+  -- the name of a function, any number of operands in brackets, and the type of the function
+  Called : OpForm
 
 -- the form of a kind that can be read
 abbrev pub form_of : KitOp → Option OpForm
@@ -29,14 +33,14 @@ form_of (ops.Arithmetic a) = Some TwoOperands
 form_of (ops.Comparison c) = Some TwoOperands
 form_of ops.Emit = Some OneOperand
 form_of ops.Return = Some AnyOperands
-form_of ops.ForwardRef = None
+form_of ops.ForwardRef = Some Empty
+form_of ops.Call = Some Called
 form_of ops.Br = None
 form_of ops.CondBr = None
-form_of ops.Call = None
 
 -- the kinds of operations that can be read, by number
 abbrev pub read_ops : List KitOp
-read_ops = ops.Module ∷ ops.Func ∷ ops.Constant ∷ ops.Return ∷ ops.Emit ∷ operators
+read_ops = ops.Module ∷ ops.Func ∷ ops.Constant ∷ ops.Return ∷ ops.Emit ∷ ops.ForwardRef ∷ ops.Call ∷ operators
 
 -- the number of a kind that can be read
 abbrev pub number_of : KitOp → Option ℕ
@@ -45,12 +49,12 @@ number_of ops.Func = Some 1
 number_of ops.Constant = Some 2
 number_of ops.Return = Some 3
 number_of ops.Emit = Some 4
-number_of (ops.Arithmetic a) = Some (suc (suc (suc (suc (suc (arithmetic_number a))))))
-number_of (ops.Comparison c) = Some (suc (suc (suc (suc (suc (comparison_number c))))))
-number_of ops.ForwardRef = None
+number_of ops.ForwardRef = Some 5
+number_of ops.Call = Some 6
+number_of (ops.Arithmetic a) = Some (suc (suc (suc (suc (suc (suc (suc (arithmetic_number a))))))))
+number_of (ops.Comparison c) = Some (suc (suc (suc (suc (suc (suc (suc (comparison_number c))))))))
 number_of ops.Br = None
 number_of ops.CondBr = None
-number_of ops.Call = None
 
 -- the kinds of types that can be read, by number
 abbrev pub read_types : List KitTypeKind
@@ -70,6 +74,9 @@ steps_in Value = steps (an_attribute ∷ [])
 steps_in TwoOperands = steps (operand ∷ word (codes ", ") (codes ",") ∷ operand ∷ word (codes ": ") (codes ":") ∷ a_type ∷ [])
 steps_in OneOperand = steps (operand ∷ [])
 steps_in AnyOperands = steps (operands ∷ [])
+steps_in Empty = steps []
+steps_in Called = steps
+    (symbol_name ∷ word (codes "(") (codes "(") ∷ operands ∷ word (codes ")") (codes ")") ∷ word (codes ": ") (codes ":") ∷ a_type ∷ [])
 
 -- the steps of a kind; none of one that can't be read
 abbrev pub steps_of_form : Option OpForm → Steps

@@ -2,7 +2,7 @@
 use Rattle.std.specs.Prelude.{[], ◌∷◌}
 use Rattle.ir_formats.specs.Ordered.{PartPositions, leads_with, operands_leads, list_leads}
 
--- the operands of `kit.return`, and the inputs and the results of a function type: for each list its own part, and that
--- of what follows a member
+-- the operands of `kit.return` and of `kit.call`, and the inputs and the results of a function type: for each list its own
+-- part, and that of what follows a member
 abbrev pub leads : PartPositions
-leads = leads_with (operands_leads ∷ operands_leads ∷ list_leads ∷ list_leads ∷ list_leads ∷ list_leads ∷ [])
+leads = leads_with (operands_leads ∷ operands_leads ∷ operands_leads ∷ operands_leads ∷ list_leads ∷ list_leads ∷ list_leads ∷ list_leads ∷ [])

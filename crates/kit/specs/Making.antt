@@ -10,6 +10,7 @@ use Rattle.ir_print.specs.Shown.{Said, Pairs, ShowsAll, ShowsType, ShowsParts, S
 use Rattle.kit_ops.specs.declared.kinds.KitOp.{KitOp}
 use Rattle.kit_ops.specs.declared.types.IntegerType.{IntegerType}
 use Rattle.kit_ops.specs.declared.types.KitType.{KitType}
+use Rattle.kit_ops.specs.declared.types.KitType.TheVariants as keys
 use Rattle.kit_ops.specs.declared.attributes.IntegerAttr.{IntegerAttr}
 use Rattle.kit_ops.specs.declared.attributes.KitAttr.{KitAttr}
 use Rattle.kit.specs.Forms.{OpForm}
@@ -57,6 +58,11 @@ module _ {D : Type 0} where
   pair_type (p ∷ q ∷ r ∷ []) = cond (is_one_operand p && is_one_operand q) (type_part r) None
   pair_type _ = None
 
+  -- the name and the type of parts that are a name, operands and a type
+  abbrev pub call_header : List (Part D KitOp KitAttr KitType) → Option (Identifier × TypeHandle)
+  call_header (p ∷ q ∷ r ∷ []) = option_and_then (λ id. option_and_then (λ ty. option_map (λ n. (id, ty)) (operands_part q)) (type_part r)) (name_part p)
+  call_header _ = None
+
   -- the types that the members of a list are, if each is one
   abbrev pub each_type : List (Vec (Part D KitOp KitAttr KitType) Global) → Option (List TypeHandle)
   each_type [] = Some []
@@ -69,6 +75,11 @@ module _ {D : Type 0} where
   -- the parts give no type of the kind with the number: this part is refused
   abbrev pub RefusesTypeOfKind : ℕ → List (Part D KitOp KitAttr KitType) → ℕ → Type 0
   RefusesTypeOfKind n parts i = (types : List KitType) (ps : Pieces) → ShowsParts says types parts ps → refused_type n ps ≡ Some i
+
+-- the types of the results of a function type; none of another type
+abbrev pub returned_by : Option KitType → List TypeHandle
+returned_by (Some (keys.Function f)) = f.results.items
+returned_by _ = []
 
 -- an operation of a form with these attributes and results of these types says the pieces
 pub record FormDrafts (form : OpForm) (types : List KitType) (ps : Pieces) (attributes : List (List ℕ × KitAttr)) (tys : List TypeHandle) : Type 0 where

@@ -133,6 +133,10 @@ module _ {D A K T : Type 0} where
   abbrev pub AreFunctionParts : Option KitAttr → Option KitAttr → List (Part D A K T) → Type 0
   AreFunctionParts o p ps = (names : List (Part D A K T)) × AreNameParts o names × (ps ≡ names ++ (type_parts_of p ++ parts.Region ∷ []))
 
+  -- the parts of a call with these attributes as its function's name and type, and with so many operands
+  abbrev pub AreCallParts : Option KitAttr → Option KitAttr → ℕ → List (Part D A K T) → Type 0
+  AreCallParts o p n ps = (names : List (Part D A K T)) × AreNameParts o names × (ps ≡ names ++ (parts.Operands n ∷ type_parts_of p))
+
   -- an integer's number, and its type
   abbrev pub integer_parts : IntegerAttr → List (Part D A K T)
   integer_parts a = parts.Number (Some (printed_number a)) ∷ parts.Width a.integer.signedness (Some a.integer.width) ∷ []

@@ -25,12 +25,12 @@ use Rattle.kit_ops.specs.declared.attributes.IntegerAttr.{IntegerAttr}
 use Rattle.kit_ops.specs.declared.attributes.KitAttr.{KitAttr}
 use Rattle.kit_ops.specs.declared.attributes.KitAttr.TheVariants as attrs
 use Rattle.kit.specs.Numbers.{number_modulo, is_signed, is_below_zero, number_of_bits, printed_number}
-use Rattle.kit_ops.specs.Keys.{symbol_name, function_type, constant_value}
+use Rattle.kit_ops.specs.Keys.{symbol_name, function_type, constant_value, callee, callee_type}
 use Rattle.kit_ops.specs.Kinds.{type_kind, attr_kind}
 use Rattle.kit_ops.specs.Arithmetic.{arithmetic_number, comparison_number}
 use Rattle.kit_ops.proofs.Operators.{arithmetic_at, comparison_at}
-use Rattle.kit.specs.Forms.{OpForm, NamedRegion, TypedRegion, Value, TwoOperands, OneOperand, AnyOperands, form_of, number_of, steps_in, steps_of_form, read_ops, read_types, read_attrs, formats, op_kind, type_form, attr_form}
-use Rattle.kit.specs.Says.{says, values, one, two, only, types_said, said_of_type, said_of_attribute, said_of_operation, said_of_module, said_of_function, is_same_type, said_of_constant, said_of_pair, pair_said, said_in, numbered, has_values, integer_said, refused_unless, is_type_member, are_types, is_number_of, refused_type, refused_attribute, refused_in, refused_by, canonical}
+use Rattle.kit.specs.Forms.{OpForm, NamedRegion, TypedRegion, Value, TwoOperands, OneOperand, AnyOperands, Empty, Called, form_of, number_of, steps_in, steps_of_form, read_ops, read_types, read_attrs, formats, op_kind, type_form, attr_form}
+use Rattle.kit.specs.Says.{says, values, one, two, only, types_said, said_of_type, said_of_attribute, said_of_operation, said_of_module, said_of_function, is_same_type, said_of_constant, said_of_pair, pair_said, said_of_call, call_said, said_in, numbered, has_values, integer_said, refused_unless, is_type_member, are_types, is_number_of, refused_type, refused_attribute, refused_in, refused_by, canonical}
 use Rattle.kit.specs.Seen.{none_seen, first_seen, one_seen, two_seen, three_seen}
 use Rattle.ir_print.specs.Shapes.{parts_in, AreSaidAt, AreMembersSaidAt, IsTypeSaid, IsAttributeSaid, SaysTypes, SaysAttributes, SaysOperations}
 
@@ -235,6 +235,21 @@ pair_read ty context ps h =
     ∙ ap (λ (t : ValueTree). a_tree (node (operands 1) pieces.4.0) (a_tree (node (operands 1) pieces.5.0) (a_tree t no_tree))) pieces.6.2)) in
     record { shaped = (refl, (refl, (refl, tt))); read = ap (refused_in TwoOperands) is; operands = ap operands_said is }
 
+empty_read : FormSaid Empty 0 no_tree
+empty_read context ps h =
+    let is = none_seen says context ps h in
+    record { shaped = tt; read = ap (refused_in Empty) is; operands = ap operands_said is }
+
+call_read : (id : Identifier) (ty : TypeHandle) (count : ℕ) → FormSaid Called count (call_said (text_of id) ty count)
+call_read id ty count context ps h =
+    let pieces = three_seen says context (leaf (said_name (text_of id))) (leaf (said_operands count)) (leaf (said_type ty)) ps h in
+    let is : ps ≡ a_tree (node (name (text_of id)) pieces.4.0) (a_tree (node (operands count) pieces.5.0) (a_tree (node (type_of_kind pieces.6.0) pieces.6.1) no_tree)) =
+    pieces.3 ∙ (ap (λ (t : ValueTree). a_tree t (a_tree pieces.1 (a_tree pieces.2 no_tree))) pieces.4.1
+    ∙ (ap (λ (t : ValueTree). a_tree (node (name (text_of id)) pieces.4.0) (a_tree t (a_tree pieces.2 no_tree))) pieces.5.1
+    ∙ ap (λ (t : ValueTree). a_tree (node (name (text_of id)) pieces.4.0) (a_tree (node (operands count) pieces.5.0) (a_tree t no_tree))) pieces.6.2)) in
+    let plain : count + 0 ≡ count = omega arith in
+    record { shaped = ((tt, id.valid), (tt, (refl, tt))); read = ap (refused_in Called) is; operands = ap operands_said is ∙ plain }
+
 -- a fact of what is said holds where it holds of what a name, a name and a type, a value, a result say
 is_said : (vs us : Trees (Said KitAttr)) (P : Trees (Said KitAttr) → Type 0) → ◌≡◌ {A = Option (Trees (Said KitAttr))} (Some vs) (Some us) → P vs → P us
 is_said vs us P e k = let same : vs ≡ us = cc in subst P same k
@@ -283,6 +298,24 @@ pair_by P k [] us e = absurd (none-some us e)
 pair_by P k (ty ∷ []) us e = is_said (pair_said ty) us P e (k ty)
 pair_by P k (ty ∷ other ∷ tys) us e = absurd (none-some us e)
 
+-- A call that says anything has a name and a type: it says these, and how many operands it has.
+pub record CallSays (o p : Option KitAttr) (count : ℕ) (us : Trees (Said KitAttr)) : Type 0 where
+  pub name : Identifier
+  pub type : TypeHandle
+  pub has_name : o ≡ Some (attrs.Identifier name)
+  pub has_type : p ≡ Some (attrs.«Type» type)
+  pub says_it : call_said (text_of name) type count ≡ us
+
+pub call_says : (o p : Option KitAttr) (count : ℕ) (us : Trees (Said KitAttr)) → said_of_call o p count ≡ Some us → CallSays o p count us
+call_says (Some (attrs.Identifier id)) (Some (attrs.«Type» ty)) count us e =
+    record { name = id; type = ty; has_name = refl; has_type = refl; says_it = same_Some (call_said (text_of id) ty count) us e }
+call_says (Some (attrs.Identifier id)) other count us e = absurd (none-some us e)
+call_says other p count us e = absurd (none-some us e)
+
+call_by : (P : Trees (Said KitAttr) → Type 0) (count : ℕ) → ((id : Identifier) (ty : TypeHandle) → P (call_said (text_of id) ty count)) →
+    (o p : Option KitAttr) (us : Trees (Said KitAttr)) → said_of_call o p count ≡ Some us → P us
+call_by P count k o p us e = let said = call_says o p count us e in subst P said.says_it (k said.name said.type)
+
 -- the number of operands is right
 many_used : (many : Bool) (count used : ℕ) → (many && count == used) ≡ true → used ≡ count
 many_used many count used e = sym (eqb-true count used (and_parts many (count == used) e).1)
@@ -307,6 +340,12 @@ form_said OneOperand entries count tys us e =
 form_said AnyOperands entries count tys us e =
     let said = only_if (length entries == 0) (Some (one (leaf (said_operands count)))) us e in
     is_said (one (leaf (said_operands count))) us (FormSaid AnyOperands count) said.1 (operands_read count)
+form_said Empty entries count tys us e =
+    let said = only_if (length entries == 0 && count == 0) (Some no_tree) us e in
+    subst (λ (c : ℕ). FormSaid Empty c us) (many_used (length entries == 0) count 0 said.0) (is_said no_tree us (FormSaid Empty 0) said.1 empty_read)
+form_said Called entries count tys us e =
+    let said = only_if (length entries == 2) (said_of_call (attribute_at entries callee) (attribute_at entries callee_type) count) us e in
+    call_by (FormSaid Called count) count (λ id ty. call_read id ty count) (attribute_at entries callee) (attribute_at entries callee_type) us said.1
 
 numbered_by : (k : ℕ) (said : Option (Trees (Said KitAttr))) (n : ℕ) (us : Trees (Said KitAttr)) → option_map {U = ℕ × Trees (Said KitAttr)} (λ vs. (k, vs)) said ≡ Some (n, us) → (Some k ≡ Some n) × (said ≡ Some us)
 numbered_by k (Some vs) n us e = let p = some_pair_parts k n vs us e in (ap Some p.0, ap Some p.1)
@@ -329,12 +368,12 @@ numbered_kind ops.Func n e = at_number 1 n ops.Func e refl
 numbered_kind ops.Constant n e = at_number 2 n ops.Constant e refl
 numbered_kind ops.Return n e = at_number 3 n ops.Return e refl
 numbered_kind ops.Emit n e = at_number 4 n ops.Emit e refl
-numbered_kind (ops.Arithmetic a) n e = at_number (suc (suc (suc (suc (suc (arithmetic_number a)))))) n (ops.Arithmetic a) e (arithmetic_at a)
-numbered_kind (ops.Comparison c) n e = at_number (suc (suc (suc (suc (suc (comparison_number c)))))) n (ops.Comparison c) e (comparison_at c)
-numbered_kind ops.ForwardRef n e = absurd (none-some n e)
+numbered_kind ops.ForwardRef n e = at_number 5 n ops.ForwardRef e refl
+numbered_kind ops.Call n e = at_number 6 n ops.Call e refl
+numbered_kind (ops.Arithmetic a) n e = at_number (suc (suc (suc (suc (suc (suc (suc (arithmetic_number a)))))))) n (ops.Arithmetic a) e (arithmetic_at a)
+numbered_kind (ops.Comparison c) n e = at_number (suc (suc (suc (suc (suc (suc (suc (comparison_number c)))))))) n (ops.Comparison c) e (comparison_at c)
 numbered_kind ops.Br n e = absurd (none-some n e)
 numbered_kind ops.CondBr n e = absurd (none-some n e)
-numbered_kind ops.Call n e = absurd (none-some n e)
 
 -- what operations say can be read
 pub says_operations : SaysOperations says formats values

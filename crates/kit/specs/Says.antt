@@ -9,8 +9,8 @@ use Rattle.ir_print.specs.declared.format.Number.{Number}
 use Rattle.ir_print.specs.Pieces.{Piece, type_of_kind, attribute_of_kind, list, item, operands, region, name, number, width, ValueTree, Pieces, Values}
 use Rattle.ir_print.specs.Shown.{Said, said_type, said_attribute, said_list, said_item, said_operands, said_region, said_name, said_number, said_width, leaf, Saying}
 use Rattle.kit_ops.specs.declared.kinds.KitOp.{KitOp}
-use Rattle.kit_ops.specs.Keys.{symbol_name, function_type, constant_value}
-use Rattle.kit.specs.Forms.{OpForm, NamedRegion, TypedRegion, Value, TwoOperands, OneOperand, AnyOperands, form_of, number_of, read_ops}
+use Rattle.kit_ops.specs.Keys.{symbol_name, function_type, constant_value, callee, callee_type}
+use Rattle.kit.specs.Forms.{OpForm, NamedRegion, TypedRegion, Value, TwoOperands, OneOperand, AnyOperands, Empty, Called, form_of, number_of, read_ops}
 use Rattle.kit_ops.specs.declared.types.KitType.{KitType}
 use Rattle.kit_ops.specs.declared.types.KitType.TheVariants as types
 use Rattle.kit_ops.specs.declared.attributes.KitAttr.{KitAttr}
@@ -84,8 +84,18 @@ abbrev pub said_of_pair : List TypeHandle → Option (Trees (Said KitAttr))
 said_of_pair (ty ∷ []) = Some (pair_said ty)
 said_of_pair _ = None
 
+-- what a call of a function with this name and this type says that has so many operands
+abbrev pub call_said : List ℕ → TypeHandle → ℕ → Trees (Said KitAttr)
+call_said cs ty n = a_tree (leaf (said_name cs)) (two (leaf (said_operands n)) (leaf (said_type ty)))
+
+-- the same of a call that has a name and a type
+abbrev pub said_of_call : Option KitAttr → Option KitAttr → ℕ → Option (Trees (Said KitAttr))
+said_of_call (Some (attrs.Identifier id)) (Some (attrs.«Type» ty)) n = Some (call_said (text_of id) ty n)
+said_of_call _ _ n = None
+
 -- An operation of a form says its own attributes and its operands, if it has no others. A constant says its value, which has
--- the type of its result, and an operation with two operands says the type of its result.
+-- the type of its result, and an operation with two operands says the type of its result. The types of a call's results the
+-- type of the function says.
 abbrev pub said_in : OpForm → (entries : List (List ℕ × KitAttr)) → (operands : ℕ) → (results : List TypeHandle) → Option (Trees (Said KitAttr))
 said_in NamedRegion entries n tys = only (length entries == 1 && n == 0) (said_of_module (attribute_at entries symbol_name))
 said_in TypedRegion entries n tys =
@@ -94,6 +104,8 @@ said_in Value entries n tys = only (length entries == 1 && n == 0) (said_of_cons
 said_in TwoOperands entries n tys = only (length entries == 0 && n == 2) (said_of_pair tys)
 said_in OneOperand entries n tys = only (length entries == 0 && n == 1) (Some (one (leaf (said_operands 1))))
 said_in AnyOperands entries n tys = only (length entries == 0) (Some (one (leaf (said_operands n))))
+said_in Empty entries n tys = only (length entries == 0 && n == 0) (Some no_tree)
+said_in Called entries n tys = only (length entries == 2) (said_of_call (attribute_at entries callee) (attribute_at entries callee_type) n)
 
 -- the same with the number of the kind, where there is a form and a number
 abbrev pub numbered : Option OpForm → Option ℕ → (OpForm → Option (Trees (Said KitAttr))) → Option (ℕ × Trees (Said KitAttr))
@@ -227,7 +239,8 @@ abbrev pub form_at : ℕ → Option OpForm
 form_at n = option_and_then form_of (slice_get read_ops n)
 
 -- An operation of a form is refused whose pieces are not those of it: a name and a region, a name, a type and a region, an
--- attribute, two operands and a type, one operand, operands. The attributes that are read are integers.
+-- attribute, two operands and a type, one operand, operands, none, a name, operands and a type. The attributes that are read
+-- are integers.
 abbrev pub refused_in : OpForm → Pieces → Option ℕ
 refused_in NamedRegion ps = refused_unless (are_two is_name is_region ps) 0
 refused_in TypedRegion ps = refused_unless (are_three is_name is_type is_region ps) 0
@@ -235,6 +248,8 @@ refused_in Value ps = refused_unless (is_one is_attribute ps) 0
 refused_in TwoOperands ps = refused_unless (are_three is_operand is_operand is_type ps) 0
 refused_in OneOperand ps = refused_unless (is_one is_operand ps) 0
 refused_in AnyOperands ps = refused_unless (is_one are_operands ps) 0
+refused_in Empty ps = refused_unless (are_none ps) 0
+refused_in Called ps = refused_unless (are_three is_name are_operands is_type ps) 0
 
 abbrev pub refused_by : Option OpForm → Pieces → Option ℕ
 refused_by None ps = Some 0
@@ -258,11 +273,30 @@ abbrev pub pair_types : Pieces → List ValueTree
 pair_types (a_tree _ (a_tree _ (a_tree t no_tree))) = t ∷ []
 pair_types _ = []
 
--- A constant has a result, of the type of its value, and an operation with two operands one of the type that it says. No other
--- operation has any.
+-- the types of the members of a list of types
+abbrev pub member_types : Pieces → List ValueTree
+member_types no_tree = []
+member_types (a_tree (node item (a_tree t no_tree)) ts) = t ∷ member_types ts
+member_types (a_tree _ ts) = member_types ts
+
+-- the types of the results of a function type; none of another type
+abbrev pub types_returned : ValueTree → List ValueTree
+types_returned (node (type_of_kind (suc zero)) (a_tree _ (a_tree (node list ts) no_tree))) = member_types ts
+types_returned _ = []
+
+-- the types of the results of the function type that pieces of a call end with
+abbrev pub call_types : Pieces → List ValueTree
+call_types (a_tree _ (a_tree _ (a_tree t no_tree))) = types_returned t
+call_types _ = []
+
+-- A constant has a result, of the type of its value, and an operation with two operands one of the type that it says. What has
+-- nothing behind its name has one of the unit type. A call has as many as the type of its function has, and of these types. No
+-- other operation has any.
 abbrev pub result_types_in : OpForm → Pieces → List ValueTree
 result_types_in Value ps = constant_types ps
 result_types_in TwoOperands ps = pair_types ps
+result_types_in Empty ps = node (type_of_kind 2) no_tree ∷ []
+result_types_in Called ps = call_types ps
 result_types_in _ ps = []
 
 abbrev pub result_types_by : Option OpForm → Pieces → List ValueTree

@@ -29,6 +29,15 @@ const ONE_OPERAND: &[Directive] = &[Directive::Operand];
 
 const ANY_OPERANDS: &[Directive] = &[Directive::Operands];
 
+const CALL: &[Directive] = &[
+    Directive::SymbolHeader,
+    Directive::Literal("("),
+    Directive::Operands,
+    Directive::Literal(")"),
+    Directive::Literal(": "),
+    Directive::Type,
+];
+
 const WIDTH: &[Directive] = &[Directive::Width];
 
 const TYPE: &[Directive] = &[Directive::Type];
@@ -63,7 +72,9 @@ pub(crate) fn operation_kind_at(number: usize) -> Option<KitOp>
         2 => Some(KitOp::Constant),
         3 => Some(KitOp::Return),
         4 => Some(KitOp::Emit),
-        _ => KitOp::operator_at(number - 5),
+        5 => Some(KitOp::ForwardRef),
+        6 => Some(KitOp::Call),
+        _ => KitOp::operator_at(number - 7),
     }
 }
 
@@ -134,7 +145,7 @@ pub(crate) fn attribute_name(kind: KitAttrKind) -> &'static str
     }
 }
 
-/// What follows the name of an operation; nothing where the kind can't be read.
+/// What follows the name of an operation; nothing where nothing does, or the kind can't be read.
 pub(crate) fn operation_format(kind: KitOp) -> &'static [Directive]
     ensures { steps_of result.now ≡ (op_kind kind).format }
 {
@@ -146,7 +157,8 @@ pub(crate) fn operation_format(kind: KitOp) -> &'static [Directive]
         KitOp::Comparison(_) => TWO_OPERANDS,
         KitOp::Emit => ONE_OPERAND,
         KitOp::Return => ANY_OPERANDS,
-        KitOp::ForwardRef | KitOp::Br | KitOp::CondBr | KitOp::Call => &[],
+        KitOp::Call => CALL,
+        KitOp::ForwardRef | KitOp::Br | KitOp::CondBr => &[],
     }
 }
 

@@ -8,24 +8,24 @@ ghost use Rattle.ir_print.specs.declared.format.Part.TheVariants as part;
 ghost use Rattle.ir_print.specs.Pieces.{Pieces};
 ghost use Rattle.ir_print.specs.Shown.{Said, ShowsAll, ShowsParts};
 ghost use Rattle.ir_program.specs.Program.{operation_at, results_at};
-ghost use Rattle.ir_types.specs.Interned.{KeepsTypes};
 ghost use Rattle.text_dialect.specs.Making as made;
 ghost use Rattle.text_dialect.specs.Seen.{SeenOperation, seen, types_of};
 ghost use Rattle.text_dialect.specs.declared.dialect.MakeFault.TheVariants.{Refused};
-ghost use Rattle.kit_ops.specs.Keys.{symbol_name, function_type, constant_value};
+ghost use Rattle.ir_types.specs.Interned.{KeepsTypes, key_at};
+ghost use Rattle.kit_ops.specs.Keys.{symbol_name, function_type, constant_value, callee, callee_type};
 ghost use Rattle.kit_ops.specs.declared.attributes.IntegerAttr.{IntegerAttr};
 ghost use Rattle.kit_ops.specs.declared.attributes.KitAttr.{KitAttr};
 ghost use Rattle.kit_ops.specs.declared.attributes.KitAttr.TheVariants.{Integer};
 ghost use Rattle.kit_ops.specs.declared.kinds.KitOp.{KitOp};
 ghost use Rattle.kit_ops.specs.declared.types.KitType.{KitType};
 ghost use Rattle.kit_ops.specs.declared.types.KitType.TheVariants.{Integer as IntegerKey};
-ghost use Rattle.kit.specs.Forms.{NamedRegion, TypedRegion, Value, TwoOperands, OneOperand, AnyOperands, read_ops};
-ghost use Rattle.kit.specs.Making.{MakesForm, RefusesForm};
-ghost use Rattle.kit.specs.Parts.{AreNameParts, AreModuleParts, AreFunctionParts};
+ghost use Rattle.kit.specs.Forms.{NamedRegion, TypedRegion, Value, TwoOperands, OneOperand, AnyOperands, Empty, Called, read_ops};
+ghost use Rattle.kit.specs.Making.{MakesForm, RefusesForm, returned_by};
+ghost use Rattle.kit.specs.Parts.{AreNameParts, AreModuleParts, AreFunctionParts, AreCallParts};
 ghost use Rattle.kit.specs.Says.{says, values};
 
 use crate::dialect::Kit;
-use crate::parts::{constant_in, function_in, module_in, operands_in, pair_in};
+use crate::parts::{call_in, constant_in, function_in, module_in, operands_in, pair_in};
 use ir_context::{Context, OperandCalls, OperationCalls, ResultCalls};
 use ir_names::{AttributeDict, Identifier, TypeHandle};
 use ir_print::Part;
@@ -193,7 +193,63 @@ fn make_of_pair(alloc: Global, parts: &[Part<Kit>]) -> Result<OperationDraft<Kit
     Ok(draft(AttributeDict::new(alloc), vec![in alloc; ty]?))
 }
 
-/// What an operation of these parts is made with, or the first part that is refused. The type of a constant is interned.
+/// What an operation with nothing behind its name is made with: the unit type, as the type of its result.
+fn make_of_nothing(
+    alloc: Global,
+    ctx: &mut Context<Kit>,
+    parts: &[Part<Kit>],
+) -> Result<OperationDraft<Kit>, MakeFault>
+    ensures program { ctx.new.program ≡ ctx.old.program }
+    ensures types { KeepsTypes ctx.old.types ctx.new.types }
+    ensures made { IfOk result
+        (λ draft. MakesForm Empty parts.now ctx.old.types.keys ctx.new.types.keys draft.attributes
+        draft.result_types.items) }
+    ensures refused { (i : ℕ) → result ≡ Err (Refused i) → RefusesForm Empty parts.now ctx.old.types.keys i }
+{
+    if !parts.is_empty() {
+        return Err(MakeFault::Refused(0));
+    }
+    let ty = ctx.instantiate_key(alloc, KitType::Unit)?;
+    let result_types = vec![in alloc; ty]?;
+    Ok(draft(AttributeDict::new(alloc), result_types))
+}
+
+/// The types of the results of a function type; none of another type.
+fn types_returned(
+    alloc: Global,
+    ctx: &Context<Kit>,
+    ty: TypeHandle,
+) -> Result<Vec<TypeHandle>, AllocError>
+    ensures { IfOk result (λ types. types.items ≡ returned_by (key_at ctx.now.types ty)) }
+{
+    match ctx.type_key(ty) {
+        Some(KitType::Function(function)) => Vec::from_slice(alloc, &function.results),
+        _ => Ok(Vec::new(alloc)),
+    }
+}
+
+/// What a call is made with: the name and the type of its function, and the types of the results of that.
+fn make_call(
+    alloc: Global,
+    ctx: &Context<Kit>,
+    parts: &[Part<Kit>],
+) -> Result<OperationDraft<Kit>, MakeFault>
+    ensures made { IfOk result (λ draft. MakesForm Called parts.now ctx.now.types.keys ctx.now.types.keys
+        draft.attributes draft.result_types.items) }
+    ensures refused { (i : ℕ) → result ≡ Err (Refused i) → RefusesForm Called parts.now ctx.now.types.keys i }
+{
+    let Some((name, ty)) = call_in(parts) else {
+        return Err(MakeFault::Refused(0));
+    };
+    let name = KitAttr::Identifier(name.try_clone()?);
+    let mut attributes = one_entry(alloc, keys::CALLEE, name)?;
+    add_entry(alloc, &mut attributes, keys::CALLEE_TYPE, KitAttr::Type(ty))?;
+    let result_types = types_returned(alloc, ctx, ty)?;
+    Ok(draft(attributes, result_types))
+}
+
+/// What an operation of these parts is made with, or the first part that is refused. The type of a constant is interned, and
+/// the unit type where an operation has nothing behind its name.
 ///
 /// # Errors
 /// `Refused` with the number of the part, and `Memory`.
@@ -218,18 +274,22 @@ pub(crate) fn make_operation(
         KitOp::Comparison(_) => make_of_pair(alloc, parts),
         KitOp::Emit => make_of_operand(alloc, parts),
         KitOp::Return => make_of_operands(alloc, parts),
-        KitOp::ForwardRef => Err(MakeFault::Refused(0)),
+        KitOp::ForwardRef => make_of_nothing(alloc, ctx, parts),
+        KitOp::Call => make_call(alloc, ctx, parts),
         KitOp::Br => Err(MakeFault::Refused(0)),
         KitOp::CondBr => Err(MakeFault::Refused(0)),
-        KitOp::Call => Err(MakeFault::Refused(0)),
     }
 }
 
-/// The name of an operation, as parts: none where it has none.
-fn name_parts(alloc: Global, attributes: &AttributeDict<Kit>) -> Result<Vec<Part<Kit>>, AllocError>
-    ensures { IfOk result (λ parts. AreNameParts (attribute_at attributes.now symbol_name) parts.items) }
+/// The name that an operation has under a key, as parts: none where it has none.
+fn name_parts(
+    alloc: Global,
+    attributes: &AttributeDict<Kit>,
+    key: &str,
+) -> Result<Vec<Part<Kit>>, AllocError>
+    ensures { IfOk result (λ parts. AreNameParts (attribute_at attributes.now key.now) parts.items) }
 {
-    match attributes.get(keys::SYMBOL_NAME) {
+    match attributes.get(key) {
         Some(KitAttr::Identifier(name)) => Ok(vec![in alloc; Part::Name(name.try_clone()?)]?),
         _ => Ok(Vec::new(alloc)),
     }
@@ -242,7 +302,7 @@ fn module_parts(
 ) -> Result<Vec<Part<Kit>>, AllocError>
     ensures { IfOk result (λ parts. AreModuleParts (attribute_at attributes.now symbol_name) parts.items) }
 {
-    let mut parts = name_parts(alloc, attributes)?;
+    let mut parts = name_parts(alloc, attributes, keys::SYMBOL_NAME)?;
     parts.push(Part::Region)?;
     Ok(parts)
 }
@@ -255,11 +315,28 @@ fn function_parts(
     ensures { IfOk result (λ parts. AreFunctionParts (attribute_at attributes.now symbol_name)
         (attribute_at attributes.now function_type) parts.items) }
 {
-    let mut parts = name_parts(alloc, attributes)?;
+    let mut parts = name_parts(alloc, attributes, keys::SYMBOL_NAME)?;
     if let Some(KitAttr::Type(ty)) = attributes.get(keys::FUNCTION_TYPE) {
         parts.push(Part::Type(*ty))?;
     }
     parts.push(Part::Region)?;
+    Ok(parts)
+}
+
+/// The parts of a call: the name of its function, so many operands, and the type of the function.
+fn call_parts(
+    alloc: Global,
+    attributes: &AttributeDict<Kit>,
+    operands: usize,
+) -> Result<Vec<Part<Kit>>, AllocError>
+    ensures { IfOk result (λ parts. AreCallParts (attribute_at attributes.now callee)
+        (attribute_at attributes.now callee_type) operands parts.items) }
+{
+    let mut parts = name_parts(alloc, attributes, keys::CALLEE)?;
+    parts.push(Part::Operands(operands))?;
+    if let Some(KitAttr::Type(ty)) = attributes.get(keys::CALLEE_TYPE) {
+        parts.push(Part::Type(*ty))?;
+    }
     Ok(parts)
 }
 
@@ -318,9 +395,9 @@ pub(crate) fn operation_parts(
         KitOp::Comparison(_) => pair_parts(alloc, ctx, op),
         KitOp::Emit => Ok(vec![in alloc; Part::Operands(op.get_num_operands(ctx))]?),
         KitOp::Return => Ok(vec![in alloc; Part::Operands(op.get_num_operands(ctx))]?),
+        KitOp::Call => call_parts(alloc, attributes, op.get_num_operands(ctx)),
         KitOp::ForwardRef => Ok(Vec::new(alloc)),
         KitOp::Br => Ok(Vec::new(alloc)),
         KitOp::CondBr => Ok(Vec::new(alloc)),
-        KitOp::Call => Ok(Vec::new(alloc)),
     }
 }

@@ -1,6 +1,6 @@
 //! What parts that were read are.
 ghost use Rattle.std.specs.Prelude.{◌≡◌, IfOk, option_copied, option_map};
-ghost use Rattle.kit.specs.Making.{one_type, one_integer_type, module_name, function_header, one_integer, one_operands, pair_type, each_type};
+ghost use Rattle.kit.specs.Making.{one_type, one_integer_type, module_name, function_header, one_integer, one_operands, pair_type, call_header, each_type};
 ghost use Rattle.kit.specs.Parts.{number_part, integer_part, list_part, is_one_operand, IsTypeList};
 
 use crate::dialect::Kit;
@@ -126,6 +126,16 @@ pub(crate) fn operands_in(parts: &[Part<Kit>]) -> Option<usize>
 {
     match parts {
         [Part::Operands(count)] => Some(*count),
+        _ => None,
+    }
+}
+
+/// The name and the type of parts that are a name, operands and a type.
+pub(crate) fn call_in(parts: &[Part<Kit>]) -> Option<(&Identifier, TypeHandle)>
+    ensures { option_map (λ e. (e.0.now, e.1)) result ≡ call_header parts.now }
+{
+    match parts {
+        [Part::Name(name), Part::Operands(_), Part::Type(ty)] => Some((name, *ty)),
         _ => None,
     }
 }

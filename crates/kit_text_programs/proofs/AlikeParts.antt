@@ -9,9 +9,11 @@ use Rattle.ir_trees.specs.Stands.{ProgramTree}
 use Rattle.ir_trees.specs.Trees.{Defined, Operations, Blocks, Regions}
 use Rattle.kit_checks.specs.Sites.{Around, Body, Listed, Site, operation_list, block_list, region_list, site_from}
 use Rattle.kit_checks.specs.Sites.{site_at}
-use Rattle.kit_checks.specs.Words.{bodies_of, entry_of, first_body, results_of, types_of, values_before, values_if}
+use Rattle.kit_checks.specs.Words.{bodies_of, entry_of, first_body, first_module, is_module, kind_of, members_of}
+use Rattle.kit_checks.specs.Words.{results_of, types_of, values_before, values_if}
 use Rattle.kit_checks.specs.Words.{values_in, values_of, visible}
 use Rattle.kit_checks.specs.World.{World}
+use Rattle.kit_ops.specs.declared.kinds.KitOp.{KitOp}
 use Rattle.kit_text_programs.specs.Alike.{AreBoth, AreTypedAlike, AreDefinedAlike, AreAlike, no_operations, no_blocks, no_regions}
 use Rattle.kit_text_programs.specs.Alike.{operations, blocks, regions}
 use Rattle.kit_text_programs.specs.Alike.{AreTrees, AreBodies, AreAround, AreSitesAlike}
@@ -77,6 +79,32 @@ module _ {O B P C : Type 0} (w : World O B) (x : World P C) (OfTypes : TypeHandl
       entry_from (slice_get (region_list t.regions) 0) (slice_get (region_list u.regions) 0)
       (both_at (AreAlike w x OfTypes OfValues Blocks) (region_list t.regions) (region_list u.regions)
       (listed_regions t.regions u.regions h.inside) 0)
+
+  -- the operations of all blocks
+  pub members_alike : (t : ProgramTree O B) (u : ProgramTree P C) → Trees t u
+      → Pairs Trees (members_of t) (members_of u)
+  members_alike t u h =
+      all_joined Trees (map (λ (b : Body O B). operation_list b.operations) (bodies_of t))
+      (map (λ (b : Body P C). operation_list b.operations) (bodies_of u))
+      (pairs_mapped Bodies (Pairs Trees) (λ (b : Body O B). operation_list b.operations)
+      (λ (b : Body P C). operation_list b.operations) (λ b d k. listed_operations b.operations d.operations k.listed)
+      (bodies_of t) (bodies_of u) (bodies_alike t u h))
+
+  -- the first module among operations
+  pub modules_alike : (ts : List (ProgramTree O B)) (us : List (ProgramTree P C)) → Pairs Trees ts us
+      → AreBoth Trees (first_module w ts) (first_module x us)
+  modules_alike [] [] h = tt
+  modules_alike [] (u ∷ us) h = absurd h
+  modules_alike (t ∷ ts) [] h = absurd h
+  modules_alike (t ∷ ts) (u ∷ us) h =
+      subst (λ (k : KitOp). AreBoth Trees (cond (is_module (kind_of w t)) (Some t) (first_module w ts))
+      (cond (is_module k) (Some u) (first_module x us))) h.0.heads.kinds
+      (either (is_module (kind_of w t)) (first_module w ts) (first_module x us) (modules_alike ts us h.1))
+    where
+      either : (b : Bool) (o : Option (ProgramTree O B)) (p : Option (ProgramTree P C)) → AreBoth Trees o p
+          → AreBoth Trees (cond b (Some t) o) (cond b (Some u) p)
+      either true o p k = h.0
+      either false o p k = k
 
   -- ---- values
 
@@ -163,11 +191,12 @@ module _ {O B P C : Type 0} (w : World O B) (x : World P C) (OfTypes : TypeHandl
   then_sites R Q f g each (Some a) (Some b) h = each a b h
 
   from_alike : (p : List ℕ) (s : Site O B) (z : Site P C) (outer : List (ProgramTree O B))
-      (others : List (ProgramTree P C)) → Sites s z → AreBoth Sites (site_from s outer p) (site_from z others p)
-  from_alike [] s z outer others h = h
-  from_alike (r ∷ []) s z outer others h = tt
-  from_alike (r ∷ b ∷ []) s z outer others h = tt
-  from_alike (r ∷ b ∷ k ∷ p) s z outer others h =
+      (others : List (ProgramTree P C)) → Sites s z → Pairs Trees outer others
+      → AreBoth Sites (site_from s outer p) (site_from z others p)
+  from_alike [] s z outer others h above = h
+  from_alike (r ∷ []) s z outer others h above = tt
+  from_alike (r ∷ b ∷ []) s z outer others h above = tt
+  from_alike (r ∷ b ∷ k ∷ p) s z outer others h above =
       then_sites (AreAlike w x OfTypes OfValues Blocks) Sites _ _ (λ bs cs in_region.
       then_sites Bodies Sites _ _ (λ body other in_block.
       then_sites Trees Sites _ _ (λ t u here.
@@ -175,13 +204,14 @@ module _ {O B P C : Type 0} (w : World O B) (x : World P C) (OfTypes : TypeHandl
         trees = here;
         surroundings = record {
           owners = h.trees;
+          outer = above;
           beside = in_region;
           numbers = refl;
           bodies = in_block;
           indices =
               refl;
         };
-      }))
+      }) (h.trees, above))
       (slice_get (operation_list body.operations) k) (slice_get (operation_list other.operations) k)
       (both_at Trees (operation_list body.operations) (operation_list other.operations)
       (listed_operations body.operations other.operations in_block.listed) k))
@@ -196,4 +226,4 @@ module _ {O B P C : Type 0} (w : World O B) (x : World P C) (OfTypes : TypeHandl
       → AreBoth Sites (site_at t p) (site_at u p)
   sites_alike t u h p =
       from_alike p (record { op = t; around = None }) (record { op = u; around = None }) [] []
-      (record { trees = h; surroundings = tt })
+      (record { trees = h; surroundings = tt }) tt

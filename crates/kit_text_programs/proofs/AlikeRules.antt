@@ -27,7 +27,8 @@ use Rattle.kit_text_programs.proofs.AlikeLists.{same_length, beside, before, non
 use Rattle.kit_text_programs.proofs.AlikeLists.{member_back}
 use Rattle.kit_text_programs.proofs.AlikeLists.{alike_back, some_first, some_second, none_second, pairs_joined}
 use Rattle.kit_text_programs.proofs.AlikeLists.{pairs_mapped}
-use Rattle.kit_text_programs.proofs.AlikeParts.{listed_operations, listed_regions, region_bodies, bodies_alike}
+use Rattle.kit_text_programs.proofs.AlikeParts.{listed_operations, listed_regions, members_alike, modules_alike}
+use Rattle.kit_text_programs.proofs.AlikeParts.{region_bodies, bodies_alike}
 use Rattle.kit_text_programs.proofs.AlikeParts.{entry_alike, types_alike}
 use Rattle.kit_text_programs.proofs.AlikeParts.{visible_alike}
 
@@ -341,8 +342,55 @@ module _ {O B P C : Type 0} (w : World O B) (x : World P C) (OfTypes : TypeHandl
     edges_fit edge target at =
         absurd (none-some target (ap (λ bs. slice_get bs edge) (sym h.trees.heads.successors) ∙ at))
 
-    calls_fit : rules.CallsFit w s
-    calls_fit is = absurd (unread ops.Call refl is)
+    -- the function types that calls say
+    callee_signatures : words.kind_of w s.op ≡ ops.Call
+        → AreBoth (AreSignatures w x OfTypes OfValues) (words.callee_signature w s.op) (words.callee_signature x z.op)
+    callee_signatures is =
+        function_back (words.callee_type w s.op) (words.callee_type x z.op) (h.trees.heads.callee_types is)
+
+    -- the nearest module around the one is alike that around the other, and so is the member that is called
+    calls_fit : rules.OperandsAreVisible x z → rules.CallsFit x z → rules.CallsFit w s
+    calls_fit seen keeps is =
+        let has = keeps (sym same_kind ∙ is) in
+        let calls = has.2 in
+        let here = some_first (AreAround w x OfTypes OfValues) s.around z.around has.0 h.surroundings has.1 in
+        let a = here.0 in
+        let scope = some_first (AreTrees w x OfTypes OfValues) (words.first_module w (a.owner ∷ a.outer))
+        (words.first_module x (has.0.owner ∷ has.0.outer)) calls.scope
+        (modules_alike w x OfTypes OfValues (a.owner ∷ a.outer) (has.0.owner ∷ has.0.outer)
+        (here.2.owners, here.2.outer)) calls.nearest in
+        let called = before (AreTrees w x OfTypes OfValues) (words.members_of scope.0) (words.members_of calls.scope)
+        (members_alike w x OfTypes OfValues scope.0 calls.scope scope.2) calls.member.0 calls.function calls.member.1 in
+        let is_function : words.kind_of w called.0 ≡ ops.Func = called.2.heads.kinds ∙ calls.is_function in
+        let type = some_first OfTypes (words.callee_type w s.op) (words.callee_type x z.op) calls.type
+        (h.trees.heads.callee_types is) calls.has_type in
+        let own = some_first OfTypes (words.own_type w called.0) (words.own_type x calls.function) calls.type
+        (called.2.heads.types is_function) calls.same_type in
+        let signature = some_first (AreSignatures w x OfTypes OfValues) (words.callee_signature w s.op)
+        (words.callee_signature x z.op) calls.signature (callee_signatures is) calls.is_signature in (
+          a,
+          here.1,
+          record {
+            scope = scope.0;
+            nearest = scope.1;
+            name = calls.name;
+            has_name = h.trees.heads.callees is ∙ calls.has_name;
+            function = called.0;
+            member = (calls.member.0, called.1);
+            is_function = is_function;
+            named = called.2.heads.names ∙ calls.named;
+            type = type.0;
+            has_type = type.1;
+            same_type = own.1 ∙ ap Some (agree.types_back own.0 type.0 calls.type calls.type own.2 type.2 refl);
+            signature = signature.0;
+            is_signature = signature.1;
+            operands = have_back s.op.head.operands z.op.head.operands signature.0.inputs.items
+                calls.signature.inputs.items (operand_types seen) signature.2.0 calls.operands;
+            results = list_back OfTypes agree.types_back (words.types_of s.op.head.results) signature.0.results.items
+                (words.types_of z.op.head.results) calls.signature.results.items result_types signature.2.1
+                calls.results;
+          },
+        )
 
     -- ---- 11
 
@@ -376,9 +424,9 @@ module _ {O B P C : Type 0} (w : World O B) (x : World P C) (OfTypes : TypeHandl
 
     -- ---- 13
 
-    attributes_are_known : rules.AttributesAreKnown w s
-    attributes_are_known = record {
-      no_forward_ref = unread ops.ForwardRef refl;
+    attributes_are_known : rules.AttributesAreKnown x z → rules.AttributesAreKnown w s
+    attributes_are_known keeps = record {
+      no_forward_ref = λ is. keeps.no_forward_ref (sym same_kind ∙ is);
       own = h.trees.heads.own;
       blocks = every_back (AreBodies w x OfTypes OfValues)
           (λ (b : Body O B). words.Every rules.IsCommon (w.block_attributes b.label.content))
@@ -419,7 +467,26 @@ module _ {O B P C : Type 0} (w : World O B) (x : World P C) (OfTypes : TypeHandl
     fits_as (ops.Comparison a) is keeps = (counts_back 1 0 0 keeps.0, operands_back 2 keeps.1)
     fits_as ops.Br is keeps = absurd (unread ops.Br refl is)
     fits_as ops.CondBr is keeps = absurd (unread ops.CondBr refl is)
-    fits_as ops.Call is keeps = absurd (unread ops.Call refl is)
+    fits_as ops.Call is keeps =
+        let signature = some_first (AreSignatures w x OfTypes OfValues) (words.callee_signature w s.op)
+        (words.callee_signature x z.op) keeps.signature (callee_signatures is) keeps.is_signature in
+        let f = signature.0 in
+        let g = keeps.signature in
+        let results : length f.results.items ≡ length g.results.items =
+        same_length OfTypes f.results.items g.results.items signature.2.1 in
+        let inputs : length f.inputs.items ≡ length g.inputs.items =
+        same_length OfTypes f.inputs.items g.inputs.items signature.2.0 in
+        record {
+          callee = (keeps.callee.0, h.trees.heads.callees is ∙ keeps.callee.1);
+          signature = f;
+          is_signature = signature.1;
+          numbers = (
+            subst (λ n. rules.Counts s.op n 0 0) (sym results)
+                (counts_back (length g.results.items) 0 0 keeps.numbers.0),
+            subst (λ n. rules.HasOperands s.op n) (sym inputs)
+                (operands_back (length g.inputs.items) keeps.numbers.1),
+          );
+        }
     fits_as ops.Emit is keeps = (counts_back 0 0 0 keeps.0, operands_back 1 keeps.1)
     fits_as ops.Return is keeps = counts_back 0 0 0 keeps
 
@@ -437,8 +504,8 @@ module _ {O B P C : Type 0} (w : World O B) (x : World P C) (OfTypes : TypeHandl
   keeps_back rule.OperandsAreVisible s z h seen keeps = operands_are_visible s z h keeps
   keeps_back rule.TypesAgree s z h seen keeps = types_agree s z h (seen tt) keeps
   keeps_back rule.EdgesFit s z h seen keeps = edges_fit s z h
-  keeps_back rule.CallsFit s z h seen keeps = calls_fit s z h
+  keeps_back rule.CallsFit s z h seen keeps = calls_fit s z h (seen tt) keeps
   keeps_back rule.ReturnsFit s z h seen keeps = returns_fit s z h (seen tt) keeps
   keeps_back rule.ConstantsFit s z h seen keeps = constants_fit s z h keeps
-  keeps_back rule.AttributesAreKnown s z h seen keeps = attributes_are_known s z h
+  keeps_back rule.AttributesAreKnown s z h seen keeps = attributes_are_known s z h keeps
   keeps_back rule.FitsFormat s z h seen keeps = fits_format s z h keeps

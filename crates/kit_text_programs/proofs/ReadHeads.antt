@@ -1,7 +1,7 @@
 -- What the pieces of an operation tell of its attributes.
-use Rattle.std.proofs.Common.{◌≡◌, ◌⊎◌, inl, inr, ℕ, zero, suc, Bool, true, false, cond, ◌&&◌, List, [], ◌∷◌, length}
+use Rattle.std.proofs.Common.{◌≡◌, inl, inr, ℕ, zero, suc, Bool, true, false, cond, ◌&&◌, List, [], ◌∷◌, length}
 use Rattle.std.proofs.Common.{Option, Some, None}
-use Rattle.std.proofs.Common.{option_and_then, refl, sym, ap, ◌∙◌, subst, arith, ◌^◌}
+use Rattle.std.proofs.Common.{option_and_then, refl, sym, ap, ◌∙◌, subst, arith, ◌^◌, ⊎_elim}
 use Rattle.std.specs.Prelude.{◌==◌, nat_lt, bytes_eq}
 use Rattle.std.proofs.lemmas.Bool.{false≢true}
 use Rattle.std.proofs.lemmas.Bool.Decides.{Decides-eqb}
@@ -12,31 +12,33 @@ use Rattle.ir_names.specs.Dictionary.{attribute_at}
 use Rattle.ir_names.specs.Identifier.{text_of}
 use Rattle.ir_names.specs.Tree.{LabelledTree, Trees, node, no_tree, a_tree}
 use Rattle.ir_print.specs.Pieces.{width, attribute_of_kind, ValueTree, Pieces}
-use Rattle.ir_print.specs.Shown.{Said, said_type, said_attribute, said_name, said_number, said_region, said_width}
+use Rattle.ir_print.specs.Shown.{Said, said_type, said_attribute, said_name, said_number, said_operands, said_region, said_width}
 use Rattle.ir_print.specs.Shown.{leaf, ShowsAll, ShowsType}
 use Rattle.kit_ops.specs.declared.attributes.IntegerAttr.{IntegerAttr}
 use Rattle.kit_ops.specs.declared.attributes.KitAttr.{KitAttr}
 use Rattle.kit_ops.specs.declared.attributes.KitAttr.TheVariants as attrs
 use Rattle.kit_ops.specs.declared.attributes.keys.TheConstants.{SYMBOL_NAME, FUNCTION_TYPE, CONSTANT_VALUE}
+use Rattle.kit_ops.specs.declared.attributes.keys.TheConstants.{CALLEE, CALLEE_TYPE}
 use Rattle.kit_ops.specs.declared.kinds.KitOp.{KitOp}
 use Rattle.kit_ops.specs.declared.kinds.KitOp.TheVariants as ops
 use Rattle.kit_ops.specs.declared.types.IntegerType.{IntegerType}
 use Rattle.kit_ops.specs.declared.types.KitType.{KitType}
-use Rattle.kit_ops.specs.Keys.{symbol_name, function_type, constant_value}
+use Rattle.kit_ops.specs.Keys.{symbol_name, function_type, constant_value, callee, callee_type}
 use Rattle.kit.specs.Meaning.{is_function}
-use Rattle.kit_checks.specs.Rules.{MayHave}
+use Rattle.kit_checks.specs.Rules.{IsOwnKey, MayHave}
 use Rattle.kit_checks.specs.Words.{Every, identifier_in, type_in}
 use Rattle.kit.specs.Forms.{OpForm, NamedRegion, TypedRegion, Value, TwoOperands, OneOperand, AnyOperands}
-use Rattle.kit.specs.Forms.{form_of}
+use Rattle.kit.specs.Forms.{Empty, Called, form_of}
 use Rattle.kit.specs.Numbers.{printed_number}
 use Rattle.kit.specs.Says.{says, one, two, only, has_values, integer_said, said_of_attribute, said_of_module}
 use Rattle.kit.specs.Says.{said_of_function}
-use Rattle.kit.specs.Says.{said_of_constant, said_of_pair, said_in}
-use Rattle.kit.specs.Readable.{constant_says}
+use Rattle.kit.specs.Says.{said_of_constant, said_of_pair, said_of_call, call_said, said_in}
+use Rattle.kit.specs.Readable.{constant_says, call_says}
 use Rattle.kit.specs.Seen.{first_seen, one_seen, two_seen, three_seen}
 use Rattle.kit_views.specs.Reading.{number_in}
 use Rattle.kit_text_programs.proofs.SaidHeads.{said_parts, bits_shown}
 use Rattle.kit_text_programs.proofs.SaidPrograms.{name_said, bits_said}
+use Rattle.kit_text_programs.proofs.SaidTexts.AttributeMaps.{either_key, two_at}
 
 abbrev pub Entries : Type 0
 Entries = List (List ℕ × KitAttr)
@@ -82,51 +84,39 @@ front_every : {X : Type 0} (P : X → Type 0) (y : X) (ys : List X) → P y → 
 front_every P y ys p all zero x at = let o : Some y ≡ Some x = at in let same : y ≡ x = cc in subst P same p
 front_every P y ys p all (suc k) x at = all k x at
 
-abbrev IsFunctionKey : List ℕ → Type 0
-IsFunctionKey key = (key ≡ symbol_name) ⊎ (key ≡ function_type)
+-- the keys of a function and of a call
+function_keys : symbol_name ≡ function_type → ⊥
+function_keys e = false≢true ((bytes_eq-Decides symbol_name function_type).1 e)
 
--- a function's own attributes
-two_own : (es : Entries) (a b : KitAttr) → (length es == 2) ≡ true → attribute_at es symbol_name ≡ Some a
-    → attribute_at es function_type ≡ Some b → Every (MayHave ops.Func) es
-two_own [] a b l e f = absurd (none-some a e)
-two_own (x ∷ []) a b l e f = let n = (Decides-eqb (length (x ∷ [])) 2).0 l in absurd (omega arith)
-two_own (x ∷ y ∷ z ∷ es) a b l e f = let n = (Decides-eqb (length (x ∷ y ∷ z ∷ es)) 2).0 l in absurd (omega arith)
-two_own ((k, v) ∷ (m, u) ∷ []) a b l e f = by (bytes_eq symbol_name k) refl e
+call_keys : callee ≡ callee_type → ⊥
+call_keys e = false≢true ((bytes_eq-Decides callee callee_type).1 e)
+
+-- two attributes under two keys of a kind are its own
+two_own : (k : KitOp) (p q : List ℕ) → IsOwnKey k p → IsOwnKey k q → (p ≡ q → ⊥) → (es : Entries) (a b : KitAttr)
+    → (length es == 2) ≡ true → attribute_at es p ≡ Some a → attribute_at es q ≡ Some b → Every (MayHave k) es
+two_own k p q own owns apart [] a b l e f = absurd (none-some a e)
+two_own k p q own owns apart (x ∷ []) a b l e f = let n = (Decides-eqb (length (x ∷ [])) 2).0 l in absurd (omega arith)
+two_own k p q own owns apart (x ∷ y ∷ z ∷ es) a b l e f =
+    let n = (Decides-eqb (length (x ∷ y ∷ z ∷ es)) 2).0 l in absurd (omega arith)
+two_own k p q own owns apart ((c, v) ∷ (d, u) ∷ []) a b l e f =
+    ⊎_elim (λ first. ⊎_elim (λ clash. absurd (apart (first ∙ sym clash))) (λ second. both
+    (subst (IsOwnKey k) first own) (subst (IsOwnKey k) second owns)) (either_key q c d v u b f))
+    (λ second. ⊎_elim (λ first. both (subst (IsOwnKey k) first owns) (subst (IsOwnKey k) second own))
+    (λ clash. absurd (apart (second ∙ sym clash))) (either_key q c d v u b f)) (either_key p c d v u a e)
   where
-    both : IsFunctionKey k → IsFunctionKey m → Every (MayHave ops.Func) ((k, v) ∷ (m, u) ∷ [])
-    both p q = front_every (MayHave ops.Func) (k, v) ((m, u) ∷ []) (inl p)
-        (front_every (MayHave ops.Func) (m, u) [] (inl q) (none_every (MayHave ops.Func)))
-
-    second : (c : List ℕ) → symbol_name ≡ c → attribute_at ((c, v) ∷ (m, u) ∷ []) function_type ≡ Some b
-        → function_type ≡ m
-    second c same q =
-        let at : attribute_at ((symbol_name, v) ∷ (m, u) ∷ []) function_type ≡ Some b =
-        subst (λ (d : List ℕ). attribute_at ((d, v) ∷ (m, u) ∷ []) function_type ≡ Some b) (sym same) q in
-        (last_entry function_type m u b at).0
-
-    first : (c : List ℕ) → symbol_name ≡ c → attribute_at ((k, v) ∷ (c, u) ∷ []) function_type ≡ Some b
-        → function_type ≡ k
-    first c same q =
-        let at : attribute_at ((k, v) ∷ (symbol_name, u) ∷ []) function_type ≡ Some b =
-        subst (λ (d : List ℕ). attribute_at ((k, v) ∷ (d, u) ∷ []) function_type ≡ Some b) (sym same) q in
-        which (bytes_eq function_type k) refl at
-      where
-        which : (t : Bool) → bytes_eq function_type k ≡ t → cond t (Some v) None ≡ Some b → function_type ≡ k
-        which true t r = (bytes_eq-Decides function_type k).0 t
-        which false t r = absurd (none-some b r)
-
-    by : (t : Bool) → bytes_eq symbol_name k ≡ t → cond t (Some v) (attribute_at ((m, u) ∷ []) symbol_name) ≡ Some a
-        → Every (MayHave ops.Func) ((k, v) ∷ (m, u) ∷ [])
-    by true t q =
-        let here = (bytes_eq-Decides symbol_name k).0 t in both (inl (sym here)) (inr (sym (second k here f)))
-    by false t q =
-        let here = (last_entry symbol_name m u a q).0 in both (inr (sym (first m here f))) (inl (sym here))
+    both : IsOwnKey k c → IsOwnKey k d → Every (MayHave k) ((c, v) ∷ (d, u) ∷ [])
+    both x y = front_every (MayHave k) (c, v) ((d, u) ∷ []) (inl x)
+        (front_every (MayHave k) (d, u) [] (inl y) (none_every (MayHave k)))
 
 -- ---- what is read
 
 abbrev is_constant : KitOp → Bool
 is_constant ops.Constant = true
 is_constant _ = false
+
+abbrev is_call : KitOp → Bool
+is_call ops.Call = true
+is_call _ = false
 
 -- the name of a module or of a function
 abbrev pub name_read : KitOp → Pieces → Option (List ℕ)
@@ -138,6 +128,11 @@ name_read _ ps = None
 abbrev pub type_read : Pieces → Option ValueTree
 type_read (a_tree p (a_tree t ps)) = Some t
 type_read _ = None
+
+-- the type behind the operands of a call
+abbrev pub callee_read : Pieces → Option ValueTree
+callee_read (a_tree p (a_tree q (a_tree t ps))) = Some t
+callee_read _ = None
 
 -- the integer type of a constant
 abbrev pub integer_read : Pieces → Option IntegerType
@@ -153,6 +148,9 @@ pub record IsRead (keys : List KitType) (k : KitOp) (es : Entries) (tys : List T
   pub valued : k ≡ ops.Constant → (v : IntegerAttr) × (attribute_at es CONSTANT_VALUE.now ≡ Some (attrs.Integer v))
       × (v.bits ≡ bits_said ps) × (integer_read ps ≡ Some v.integer) × (tys ≡ v.ty ∷ [])
   pub own : Every (MayHave k) es
+  pub called : k ≡ ops.Call → (ty : TypeHandle) × (t : ValueTree) × ShowsType says keys ty t × (callee_read ps ≡ Some t)
+      × (option_and_then type_in (attribute_at es CALLEE_TYPE.now) ≡ Some ty)
+      × (option_and_then identifier_in (attribute_at es CALLEE.now) ≡ Some (name_said ps))
 
 module _ (keys : List KitType) (es : Entries) (n : ℕ) (tys : List TypeHandle) (kind : ℕ) (said : SaidTrees)
     (ps : Pieces)
@@ -171,15 +169,16 @@ module _ (keys : List KitType) (es : Entries) (n : ℕ) (tys : List TypeHandle) 
       ap Some (sym (ap name_said k.2 ∙ ap (λ (t : ValueTree). name_said (a_tree t k.1)) k.3.1))
 
   -- an operation without attributes
-  bare : (k : KitOp) → is_function k ≡ false → is_constant k ≡ false → None ≡ name_read k ps → (length es == 0) ≡ true
-      → IsRead keys k es tys ps
-  bare k f c e none =
+  bare : (k : KitOp) → is_function k ≡ false → is_constant k ≡ false → is_call k ≡ false → None ≡ name_read k ps
+      → (length es == 0) ≡ true → IsRead keys k es tys ps
+  bare k f c g e none =
       let empty = no_entries es none in
       record {
         names = ap (λ (x : Entries). option_and_then identifier_in (attribute_at x SYMBOL_NAME.now)) empty ∙ e;
         types = λ is. absurd (false≢true (sym f ∙ ap is_function is));
         valued = λ is. absurd (false≢true (sym c ∙ ap is_constant is));
         own = subst (Every (MayHave k)) (sym empty) (none_every (MayHave k));
+        called = λ is. absurd (false≢true (sym g ∙ ap is_call is));
       }
 
   module_read : (o : Option KitAttr) → attribute_at es symbol_name ≡ o → (length es == 1) ≡ true
@@ -195,6 +194,7 @@ module _ (keys : List KitType) (es : Entries) (n : ℕ) (tys : List TypeHandle) 
         own = subst (Every (MayHave ops.Module)) (sym (one_entry es symbol_name (attrs.Identifier id) l at))
             (front_every (MayHave ops.Module) (symbol_name, attrs.Identifier id) [] (inl refl)
             (none_every (MayHave ops.Module)));
+        called = λ is. absurd (false≢true (ap is_call is));
       }
   module_read (Some (attrs.Integer a)) at l e = absurd (none-some said e)
   module_read (Some (attrs.«Type» a)) at l e = absurd (none-some said e)
@@ -223,7 +223,9 @@ module _ (keys : List KitType) (es : Entries) (n : ℕ) (tys : List TypeHandle) 
             (leaf said_region)) all;
         types = λ is. (ty, type.0, type.1, type.2, ap (option_and_then type_in) there);
         valued = λ is. absurd (false≢true (ap is_constant is));
-        own = two_own es (attrs.Identifier id) (attrs.«Type» ty) l at there;
+        own = two_own ops.Func symbol_name function_type (inl refl) (inr refl) function_keys es (attrs.Identifier id)
+            (attrs.«Type» ty) l at there;
+        called = λ is. absurd (false≢true (ap is_call is));
       }
   typed_read None p at there l e = absurd (none-some said e)
   typed_read (Some (attrs.Integer a)) p at there l e = absurd (none-some said e)
@@ -291,6 +293,42 @@ module _ (keys : List KitType) (es : Entries) (n : ℕ) (tys : List TypeHandle) 
         own = subst (Every (MayHave ops.Constant)) (sym entries)
             (front_every (MayHave ops.Constant) (constant_value, attrs.Integer is.value) [] (inl refl)
             (none_every (MayHave ops.Constant)));
+        called = λ f. absurd (false≢true (ap is_call f));
+      }
+
+  -- ---- calls
+
+  -- the handle of a type is shown by the third piece
+  third_type : (cs : List ℕ) (ty : TypeHandle) → ShowsAll says keys (call_said cs ty n) ps
+      → (t : ValueTree) × ShowsType says keys ty t × (callee_read ps ≡ Some t)
+  third_type cs ty h =
+      let k = three_seen says keys (leaf (said_name cs)) (leaf (said_operands n)) (leaf (said_type ty)) ps h in
+      (k.2, subst (ShowsType says keys ty) (sym k.6.2) k.6.3, ap callee_read k.3)
+
+  call_read : (length es == 2) ≡ true
+      → said_of_call (attribute_at es callee) (attribute_at es callee_type) n ≡ Some said
+      → IsRead keys ops.Call es tys ps
+  call_read l e =
+      let call = call_says (attribute_at es callee) (attribute_at es callee_type) n said e in
+      let all = subst (λ (z : SaidTrees). ShowsAll says keys z ps) (sym call.says_it) shown in
+      let type = third_type (text_of call.name) call.type all in
+      let count = (Decides-eqb (length es) 2).0 l in
+      record {
+        names = ap (option_and_then identifier_in) (two_at es callee callee_type (attrs.Identifier call.name)
+            (attrs.«Type» call.type) count call_keys call.has_name call.has_type symbol_name);
+        types = λ is. absurd (false≢true (ap is_function is));
+        valued = λ is. absurd (false≢true (ap is_constant is));
+        own = two_own ops.Call callee callee_type (inl refl) (inr refl) call_keys es (attrs.Identifier call.name)
+            (attrs.«Type» call.type) l call.has_name call.has_type;
+        called = λ is. (
+          call.type,
+          type.0,
+          type.1,
+          type.2,
+          ap (option_and_then type_in) call.has_type,
+          ap (option_and_then identifier_in) call.has_name
+              ∙ name_first (text_of call.name) (two (leaf (said_operands n)) (leaf (said_type call.type))) all,
+        );
       }
 
   -- what an operation says tells this of its attributes
@@ -313,22 +351,25 @@ module _ (keys : List KitType) (es : Entries) (n : ℕ) (tys : List TypeHandle) 
   read (ops.Arithmetic a) e =
       let kept = only_some (length es == 0 && n == 2) (said_of_pair tys) said (said_as
       (ops.Arithmetic a) TwoOperands e refl) in
-      bare (ops.Arithmetic a) refl refl refl (and_left (length es == 0) (n == 2) kept.0)
+      bare (ops.Arithmetic a) refl refl refl refl (and_left (length es == 0) (n == 2) kept.0)
   read (ops.Comparison a) e =
       let kept = only_some (length es == 0 && n == 2) (said_of_pair tys) said (said_as
       (ops.Comparison a) TwoOperands e refl) in
-      bare (ops.Comparison a) refl refl refl (and_left (length es == 0) (n == 2) kept.0)
+      bare (ops.Comparison a) refl refl refl refl (and_left (length es == 0) (n == 2) kept.0)
   read ops.Emit e =
       let kept = only_some (length es == 0 && n == 1) _ said (said_as ops.Emit OneOperand e refl) in
-      bare ops.Emit refl refl refl (and_left (length es == 0) (n == 1) kept.0)
+      bare ops.Emit refl refl refl refl (and_left (length es == 0) (n == 1) kept.0)
   read ops.Return e =
       let kept = only_some (length es == 0) _ said (said_as ops.Return AnyOperands e refl) in
-      bare ops.Return refl refl refl kept.0
+      bare ops.Return refl refl refl refl kept.0
   read ops.Br e = absurd (none-some (said_parts ops.Br es n tys kind said e).0
       (said_parts ops.Br es n tys kind said e).1)
   read ops.CondBr e = absurd (none-some (said_parts ops.CondBr es n tys kind said e).0
       (said_parts ops.CondBr es n tys kind said e).1)
-  read ops.Call e = absurd (none-some (said_parts ops.Call es n tys kind said e).0
-      (said_parts ops.Call es n tys kind said e).1)
-  read ops.ForwardRef e = absurd (none-some (said_parts ops.ForwardRef es n tys kind said e).0
-      (said_parts ops.ForwardRef es n tys kind said e).1)
+  read ops.Call e =
+      let kept = only_some (length es == 2) (said_of_call (attribute_at es callee) (attribute_at es callee_type) n) said
+      (said_as ops.Call Called e refl) in
+      call_read kept.0 kept.1
+  read ops.ForwardRef e =
+      let kept = only_some (length es == 0 && n == 0) _ said (said_as ops.ForwardRef Empty e refl) in
+      bare ops.ForwardRef refl refl refl refl (and_left (length es == 0) (n == 0) kept.0)

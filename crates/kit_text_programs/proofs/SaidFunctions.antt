@@ -36,10 +36,10 @@ use Rattle.kit_views.specs.Reading.{kit_reading}
 use Rattle.kit_writable_trees.specs.Laws.{WritableContext}
 use Rattle.kit_text_programs.specs.Laws.{HaveOwnNumbers}
 use Rattle.kit_text_programs.proofs.SaidPrograms.{width_said, bits_said, first_in, second_in, op_said, numbers_in}
-use Rattle.kit_text_programs.proofs.SaidPrograms.{widths_in, ops_said, fun_said}
+use Rattle.kit_text_programs.proofs.SaidPrograms.{name_said, widths_in, ops_said, fun_said}
 use Rattle.kit_text_programs.proofs.ValueNumbers.{number_of_value, HasNumber, number_is}
 use Rattle.kit.specs.Readable.{numbered_kind}
-use Rattle.kit_text_programs.proofs.SaidHeads.{said_parts, width_shown, bits_shown}
+use Rattle.kit_text_programs.proofs.SaidHeads.{said_parts, width_shown, bits_shown, callee_shown}
 use Rattle.kit_text_programs.proofs.Unlabelled.{HasSomeLabel}
 
 -- parts of trees of operations of `kit`
@@ -50,10 +50,11 @@ first_same : {X : Type 0} (x y : X) (xs ys : List X) → x ∷ xs ≡ y ∷ ys �
 first_same x y xs ys e = cc
 
 -- arithmetic that is read is that of its kind
-calc_said : (f : Arith) (ds ws us : List ℕ) (ps : Pieces)
-    → op_said (Some (kind_of f)) ds ws us ps ≡ Calc f (first_in ws) (first_in ds) (first_in us) (second_in us)
-calc_said (Calculated a) ds ws us ps = refl
-calc_said (Compared c) ds ws us ps = refl
+calc_said : (numbered : List ℕ → ℕ) (f : Arith) (ds ws us : List ℕ) (ps : Pieces)
+    → op_said numbered (Some (kind_of f)) ds ws us ps
+    ≡ Calc f (first_in ws) (first_in ds) (first_in us) (second_in us)
+calc_said numbered (Calculated a) ds ws us ps = refl
+calc_said numbered (Compared c) ds ws us ps = refl
 
 module _ (s : WritableContext) (values : List Value) (own : HaveOwnNumbers values) (numbered : List ℕ → ℕ) where
   -- values by their numbers in the text
@@ -111,7 +112,7 @@ module _ (s : WritableContext) (values : List Value) (own : HaveOwnNumbers value
     IsFlatOp op = IsOp (kit_reading (key_at s.types) numbered) names (head_of p v) op
 
     abbrev said_op : Op ℕ
-    said_op = op_said (slice_get read_ops kind) (numbers_in results) (widths_in results) used pieces
+    said_op = op_said numbered (slice_get read_ops kind) (numbers_in results) (widths_in results) used pieces
 
     has_number : number_of v.payload.kind ≡ Some kind
     has_number = (said_parts v.payload.kind v.payload.notes.attributes (length v.operands)
@@ -121,8 +122,8 @@ module _ (s : WritableContext) (values : List Value) (own : HaveOwnNumbers value
     at_kind k is = numbered_kind v.payload.kind kind has_number ∙ ap Some is
 
     said_by : (k : KitOp) → v.payload.kind ≡ k
-        → op_said (Some k) (numbers_in results) (widths_in results) used pieces ≡ said_op
-    said_by k is = ap (λ o. op_said o (numbers_in results) (widths_in results) used pieces) (sym (at_kind k is))
+        → op_said numbered (Some k) (numbers_in results) (widths_in results) used pieces ≡ said_op
+    said_by k is = ap (λ o. op_said numbered o (numbers_in results) (widths_in results) used pieces) (sym (at_kind k is))
 
     unread : (k : KitOp) → number_of k ≡ None → v.payload.kind ≡ k → ⊥
     unread k none is = none-some kind (sym none ∙ ap number_of (sym is) ∙ has_number)
@@ -163,7 +164,7 @@ module _ (s : WritableContext) (values : List Value) (own : HaveOwnNumbers value
               ∙ ap (λ (k : ℕ). Calc f (first_in (widths_in results)) k (by_number y) (by_number z)) def.0
               ∙ ap (λ (us : List ℕ). Calc f (first_in (widths_in results)) (first_in (numbers_in results))
               (first_in us) (second_in us)) operands
-              ∙ sym (calc_said f (numbers_in results) (widths_in results) used pieces)
+              ∙ sym (calc_said numbered f (numbers_in results) (widths_in results) used pieces)
               ∙ said_by (kind_of f) is.0.kind,
           (def.1, named.0, named.1.0),
         )
@@ -171,7 +172,15 @@ module _ (s : WritableContext) (values : List Value) (own : HaveOwnNumbers value
         let operands : by_number x ∷ [] ≡ used = ap (map by_number) (sym is.operands) ∙ uses.0 in
         let named = subst (AllNamed IsNumbered) is.operands uses.1 in
         (ap (λ (us : List ℕ). Emit (first_in us)) operands ∙ said_by ops.Emit is.kind, named.0)
-    op_same (Call rs c xs) is = absurd (unread ops.Call refl is.0.kind)
+    op_same (Call rs c xs) is =
+        let defines : map by_number rs ≡ numbers_in results = ap (map by_number) (sym is.0.results) ∙ defined.numbers in
+        let takes : map by_number xs ≡ used = ap (map by_number) (sym is.0.operands) ∙ uses.0 in
+        let called : c ≡ numbered (name_said pieces) = sym is.1
+        ∙ callee_shown s.types.keys numbered v.payload.kind v.payload.notes.attributes (length v.operands)
+        (map (λ y. y.ty) v.results) kind h.said pieces h.says_it h.shown is.0.kind in (
+          (λ i. Call (defines i) (called i) (takes i)) ∙ said_by ops.Call is.0.kind,
+          (subst (AllNamed IsNumbered) is.0.results defined.named, subst (AllNamed IsNumbered) is.0.operands uses.1),
+        )
     op_same (Branch Plain xs e es) is = absurd (unread ops.Br refl is.0.kind)
     op_same (Branch Nonzero xs e es) is = absurd (unread ops.CondBr refl is.0.kind)
     op_same (Branch (Cases ns) xs e es) is = absurd is
@@ -201,7 +210,7 @@ module _ (s : WritableContext) (values : List Value) (own : HaveOwnNumbers value
 
     ops_same : (ps : List (Ptr Operation)) (x : KitPart Operations) (ts : Entities ℕ) (os : List (Op Value))
         → AreTree s.program Operations ps x → HaveTrees says (Named values) HasSomeLabel (seen s) ps ts
-        → AreFlatOps x os → (map numbered_op os ≡ ops_said ts) × OpsNamed IsNumbered AnyBlock os
+        → AreFlatOps x os → (map numbered_op os ≡ ops_said numbered ts) × OpsNamed IsNumbered AnyBlock os
     ops_same [] x no_entity [] no_operations h are = (refl, tt)
     ops_same [] x no_entity (op ∷ os) no_operations h are = absurd are
     ops_same [] x (an_entity t ts) os no_operations h are = absurd h
@@ -215,7 +224,7 @@ module _ (s : WritableContext) (values : List Value) (own : HaveOwnNumbers value
         let first = op_same names p v kind results used pieces head op are.1 in
         let others = ops_same ps rest ts os after h.1 are.2 in (
           ap (λ (o : Op ℕ). o ∷ map numbered_op os) first.0
-              ∙ ap (λ (qs : List (Op ℕ)). op_said (slice_get read_ops kind) (numbers_in results) (widths_in results)
+              ∙ ap (λ (qs : List (Op ℕ)). op_said numbered (slice_get read_ops kind) (numbers_in results) (widths_in results)
               used pieces ∷ qs) others.0,
           (first.1, others.1),
         )
@@ -245,7 +254,7 @@ module _ (s : WritableContext) (values : List Value) (own : HaveOwnNumbers value
     pub blocks_same : (bs : List (Ptr BasicBlock)) (x : KitPart Blocks) (ts : Entities ℕ) (f : Fun Value)
         → AreTree s.program Blocks bs x → HaveBlockTrees says (Named values) HasSomeLabel (seen s) bs ts
         → AreFlatBlocks (kit_reading (key_at s.types) numbered) names x f
-        → (map (rename_block by_number) f ≡ fun_said ts) × BlocksNamed f
+        → (map (rename_block by_number) f ≡ fun_said numbered ts) × BlocksNamed f
     blocks_same [] x no_entity [] no_blocks h are = (refl, tt)
     blocks_same [] x no_entity (k ∷ ks) no_blocks h are = absurd are
     blocks_same [] x (an_entity t ts) f no_blocks h are = absurd h
@@ -268,7 +277,7 @@ module _ (s : WritableContext) (values : List Value) (own : HaveOwnNumbers value
           ap (λ (c : Block ℕ). c ∷ map (rename_block by_number) ks)
               (ap (λ (ns : List ℕ). record { arguments = ns; ops = map numbered_op k.ops }) numbers
               ∙ ap (λ (qs : List (Op ℕ)). record { arguments = numbers_in arguments; ops = qs }) inside.0)
-              ∙ ap (λ (cs : Fun ℕ). record { arguments = numbers_in arguments; ops = ops_said us } ∷ cs) others.0,
+              ∙ ap (λ (cs : Fun ℕ). record { arguments = numbers_in arguments; ops = ops_said numbered us } ∷ cs) others.0,
           (subst (AllNamed IsNumbered) are.0 takes.named, inside.1, others.1),
         )
     blocks_same (b ∷ bs) x (an_entity (entity (operation kind results used pieces) us) ts) (k ∷ ks)

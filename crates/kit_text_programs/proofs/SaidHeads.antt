@@ -14,7 +14,7 @@ use Rattle.ir_names.specs.Identifier.{text_of}
 use Rattle.ir_names.specs.Tree.{LabelledTree, Trees, node, no_tree, a_tree}
 use Rattle.ir_print.specs.Pieces.{type_of_kind, attribute_of_kind, number, ValueTree, Pieces}
 use Rattle.ir_print.specs.Shown.{Said, said_type, said_attribute, said_list, said_name, said_number, said_width}
-use Rattle.ir_print.specs.Shown.{said_region, leaf, ShowsAll, ShowsType}
+use Rattle.ir_print.specs.Shown.{said_region, said_operands, leaf, ShowsAll, ShowsType}
 use Rattle.kit_ops.specs.declared.attributes.IntegerAttr.{IntegerAttr}
 use Rattle.kit_ops.specs.declared.attributes.KitAttr.{KitAttr}
 use Rattle.kit_ops.specs.declared.attributes.KitAttr.TheVariants as attrs
@@ -22,15 +22,16 @@ use Rattle.kit_ops.specs.declared.kinds.KitOp.{KitOp}
 use Rattle.kit_ops.specs.declared.kinds.KitOp.TheVariants as ops
 use Rattle.kit_ops.specs.declared.types.KitType.{KitType}
 use Rattle.kit_ops.specs.declared.types.KitType.TheVariants as types
-use Rattle.kit_ops.specs.Keys.{symbol_name, function_type, constant_value}
+use Rattle.kit_ops.specs.Keys.{symbol_name, function_type, constant_value, callee, callee_type}
 use Rattle.kit.specs.Meaning.{is_function, is_module}
-use Rattle.kit.specs.Forms.{OpForm, NamedRegion, TypedRegion, Value, form_of, number_of}
+use Rattle.kit.specs.Forms.{OpForm, NamedRegion, TypedRegion, Value, Called, form_of, number_of}
 use Rattle.kit.specs.Numbers.{number_modulo, is_below_zero, printed_number}
 use Rattle.kit.specs.Says.{says, one, two, only, types_said, integer_said, said_of_type, said_of_attribute}
-use Rattle.kit.specs.Says.{said_of_module, said_of_function, said_of_constant, said_in, numbered, has_values}
-use Rattle.kit.specs.Readable.{constant_says, numbered_kind}
+use Rattle.kit.specs.Says.{said_of_module, said_of_function, said_of_constant, said_of_call, said_in, numbered}
+use Rattle.kit.specs.Says.{has_values}
+use Rattle.kit.specs.Readable.{constant_says, call_says, numbered_kind}
 use Rattle.kit.specs.Seen.{seen, none_seen, first_seen, one_seen, two_seen}
-use Rattle.kit_views.specs.Reading.{number_in, integer_of}
+use Rattle.kit_views.specs.Reading.{number_in, named_in, integer_of}
 use Rattle.kit_ruled_views.specs.Paths.{is_name}
 use Rattle.kit_text_programs.proofs.SaidPrograms.{width_said, bits_said, name_said, passes, is_called}
 
@@ -244,6 +245,20 @@ module _ (keys : List KitType) where
   name_piece cs us ps h =
       let k = first_seen says keys (leaf (said_name cs)) us ps h in
       ap name_said k.2 ∙ ap (λ (t : ValueTree). name_said (a_tree t k.1)) k.3.1
+
+  -- a call names the function that it says
+  pub callee_shown : (numbers : List ℕ → ℕ) (k : KitOp) (entries : List (List ℕ × KitAttr)) (n : ℕ)
+      (tys : List TypeHandle) (kind : ℕ) (said : SaidTrees) (ps : Pieces) → says.of_operation k entries n tys ≡ Some (kind, said)
+      → ShowsAll says keys said ps → k ≡ ops.Call
+      → named_in numbers (attribute_at entries callee) ≡ numbers (name_said ps)
+  callee_shown numbers k entries n tys kind said ps e h is =
+      let so = said_as k Called entries n tys kind said e (ap form_of is) in
+      let kept = only_some (length entries == 2)
+      (said_of_call (attribute_at entries callee) (attribute_at entries callee_type) n) said so in
+      let call = call_says (attribute_at entries callee) (attribute_at entries callee_type) n said kept.1 in
+      ap (named_in numbers) call.has_name
+      ∙ ap numbers (sym (name_piece (text_of call.name) (two (leaf (said_operands n)) (leaf (said_type call.type))) ps
+      (subst (λ (z : SaidTrees). ShowsAll says keys z ps) (sym call.says_it) h)))
 
   -- the name that is said is that of a module
   module_name : (numbers : List ℕ → ℕ) (x : ℕ) (o : Option KitAttr) (said : SaidTrees) (ps : Pieces)

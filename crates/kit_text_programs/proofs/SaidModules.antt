@@ -194,7 +194,7 @@ module _ (s : WritableContext) (values : List Value) (own : HaveOwnNumbers value
       (are : AreFlatBlocks (kit_reading (key_at s.types) numbered) (names_in blocks) blocks f) where
     function_placed : (rs : List (Ptr Region)) (x : KitPart Regions) (us : Entities ℕ) → AreTree s.program Regions rs x
         → HaveRegionTrees says (Named values) HasSomeLabel (seen s) rs us → x ≡ region blocks end
-        → place_fun same_value (Some f) ≡ place_fun nat_eq (Some (fun_said (first_inside us)))
+        → place_fun same_value (Some f) ≡ place_fun nat_eq (Some (fun_said numbered (first_inside us)))
     function_placed [] x us no_regions h e = absurd (no_region blocks e)
     function_placed (r ∷ rs) x no_entity (first_region _ _ v bs rest there inner after) h e = absurd h
     function_placed (r ∷ rs) x (an_entity (entity a_region us) ts) (first_region _ _ v bs rest there inner after) h e =

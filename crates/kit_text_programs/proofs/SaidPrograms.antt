@@ -10,7 +10,7 @@ use Rattle.kit.specs.Meaning.{is_function, is_module}
 use Rattle.kit.specs.Forms.{read_ops}
 use Rattle.kit.specs.Numbers.{number_modulo}
 use Rattle.kit_behaviour.specs.Machine.{Calculated, Compared}
-use Rattle.kit_behaviour.specs.Machine.{Op, Const, Calc, Emit, Return, Fun, FunctionsByPath}
+use Rattle.kit_behaviour.specs.Machine.{Op, Const, Calc, Emit, Call, Return, Fun, FunctionsByPath}
 use Rattle.kit_behaviour.specs.Numbering.{place_fun}
 use Rattle.kit_behaviour.specs.Places.{Place}
 
@@ -39,15 +39,16 @@ abbrev pub second_in : List ℕ → ℕ
 second_in [] = 0
 second_in (n ∷ ns) = first_in ns
 
--- the operation of a kind that defines and uses the values with these numbers
-abbrev pub op_said : Option KitOp → (defines widths uses : List ℕ) → Pieces → Op ℕ
-op_said (Some ops.Constant) ds ws us ps = Const (first_in ds) (bits_said ps)
-op_said (Some (ops.Arithmetic a)) ds ws us ps =
+-- the operation of a kind that defines and uses the values with these numbers, where names have numbers
+abbrev pub op_said : (List ℕ → ℕ) → Option KitOp → (defines widths uses : List ℕ) → Pieces → Op ℕ
+op_said numbered (Some ops.Constant) ds ws us ps = Const (first_in ds) (bits_said ps)
+op_said numbered (Some (ops.Arithmetic a)) ds ws us ps =
     Calc (Calculated a) (first_in ws) (first_in ds) (first_in us) (second_in us)
-op_said (Some (ops.Comparison c)) ds ws us ps =
+op_said numbered (Some (ops.Comparison c)) ds ws us ps =
     Calc (Compared c) (first_in ws) (first_in ds) (first_in us) (second_in us)
-op_said (Some ops.Emit) ds ws us ps = Emit (first_in us)
-op_said _ ds ws us ps = Return us
+op_said numbered (Some ops.Emit) ds ws us ps = Emit (first_in us)
+op_said numbered (Some ops.Call) ds ws us ps = Call ds (numbered (name_said ps)) us
+op_said numbered _ ds ws us ps = Return us
 
 -- the numbers of definitions, and the widths of their types
 abbrev pub numbers_in : List (ℕ × ValueTree) → List ℕ
@@ -57,19 +58,20 @@ abbrev pub widths_in : List (ℕ × ValueTree) → List ℕ
 widths_in xs = map (λ x. width_said x.1) xs
 
 -- the operations of a block, and the blocks of a function
-abbrev pub ops_said : Entities ℕ → List (Op ℕ)
-ops_said no_entity = []
-ops_said (an_entity (entity (operation kind results used pieces) us) ts) =
-    op_said (slice_get read_ops kind) (numbers_in results) (widths_in results) used pieces ∷ ops_said ts
-ops_said (an_entity (entity a_region us) ts) = ops_said ts
-ops_said (an_entity (entity (block label arguments) us) ts) = ops_said ts
+abbrev pub ops_said : (List ℕ → ℕ) → Entities ℕ → List (Op ℕ)
+ops_said numbered no_entity = []
+ops_said numbered (an_entity (entity (operation kind results used pieces) us) ts) =
+    op_said numbered (slice_get read_ops kind) (numbers_in results) (widths_in results) used pieces
+    ∷ ops_said numbered ts
+ops_said numbered (an_entity (entity a_region us) ts) = ops_said numbered ts
+ops_said numbered (an_entity (entity (block label arguments) us) ts) = ops_said numbered ts
 
-abbrev pub fun_said : Entities ℕ → Fun ℕ
-fun_said no_entity = []
-fun_said (an_entity (entity (block label arguments) us) ts) =
-    record { arguments = numbers_in arguments; ops = ops_said us } ∷ fun_said ts
-fun_said (an_entity (entity a_region us) ts) = fun_said ts
-fun_said (an_entity (entity (operation kind results used pieces) us) ts) = fun_said ts
+abbrev pub fun_said : (List ℕ → ℕ) → Entities ℕ → Fun ℕ
+fun_said numbered no_entity = []
+fun_said numbered (an_entity (entity (block label arguments) us) ts) =
+    record { arguments = numbers_in arguments; ops = ops_said numbered us } ∷ fun_said numbered ts
+fun_said numbered (an_entity (entity a_region us) ts) = fun_said numbered ts
+fun_said numbered (an_entity (entity (operation kind results used pieces) us) ts) = fun_said numbered ts
 
 -- what is in the first of these
 abbrev pub first_inside : Entities ℕ → Entities ℕ
@@ -112,7 +114,7 @@ module _ (numbered : List ℕ → ℕ) where
   -- the function with these regions, its values named by their places
   abbrev pub placed_said : Option (Entities ℕ) → Option (Fun Place)
   placed_said None = None
-  placed_said (Some us) = place_fun nat_eq (Some (fun_said (first_inside us)))
+  placed_said (Some us) = place_fun nat_eq (Some (fun_said numbered (first_inside us)))
 
   -- the program that the regions of a module say
   abbrev pub program_said : Entities ℕ → FunctionsByPath Place

@@ -161,6 +161,10 @@ module _ (s z : WritableContext) (values others : List Value) (own : HaveOwnNumb
           });
       valued = λ is. let x = here.valued is in (x.0, x.1);
       own = here.own;
+      callees = λ is. let x = here.called is in let y = there.called (sym kinds_same ∙ is) in x.5 ∙ sym y.5;
+      callee_types = λ is. let x = here.called is in let y = there.called (sym kinds_same ∙ is) in
+          are_both OfTypes _ _ x.0 y.0 x.4 y.4 (shown_same x.0 y.0 x.1 x.2
+          (subst (ShowsType says z.types.keys y.0) (same_Some y.1 x.1 (sym y.3 ∙ x.3)) y.2));
     }
 
   -- ---- trees

@@ -26,6 +26,7 @@ use Rattle.kit_text_programs.proofs.SameTypes.{types_meet, same_integers, same_f
 visible_before : (r : Rule) → AreVisibleFirst r → number_of rule.OperandsAreVisible < number_of r
 visible_before rule.TypesAgree h = omega arith
 visible_before rule.ReturnsFit h = omega arith
+visible_before rule.CallsFit h = omega arith
 visible_before rule.RootIsModule h = absurd h
 visible_before rule.ModuleHolds h = absurd h
 visible_before rule.FunctionHasType h = absurd h
@@ -34,7 +35,6 @@ visible_before rule.ValuesAreIntegers h = absurd h
 visible_before rule.BlocksEnd h = absurd h
 visible_before rule.OperandsAreVisible h = absurd h
 visible_before rule.EdgesFit h = absurd h
-visible_before rule.CallsFit h = absurd h
 visible_before rule.ConstantsFit h = absurd h
 visible_before rule.AttributesAreKnown h = absurd h
 visible_before rule.FitsFormat h = absurd h

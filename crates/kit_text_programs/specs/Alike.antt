@@ -8,7 +8,8 @@ use Rattle.ir_program.specs.declared.handles.Value.{Value}
 use Rattle.ir_trees.specs.Stands.{ProgramTree, ProgramHead}
 use Rattle.ir_trees.specs.Trees.{Defined, Sort, Operations, Blocks, Regions, end, operation, block, region}
 use Rattle.ir_trees.specs.Stands.{ProgramLabel}
-use Rattle.kit_ops.specs.declared.attributes.keys.TheConstants.{SYMBOL_NAME, FUNCTION_TYPE, CONSTANT_VALUE}
+use Rattle.kit_ops.specs.declared.attributes.keys.TheConstants.{SYMBOL_NAME, FUNCTION_TYPE, CONSTANT_VALUE, CALLEE}
+use Rattle.kit_ops.specs.declared.attributes.keys.TheConstants.{CALLEE_TYPE}
 use Rattle.kit_ops.specs.declared.attributes.IntegerAttr.{IntegerAttr}
 use Rattle.kit_ops.specs.declared.attributes.KitAttr.TheVariants as attrs
 use Rattle.kit_ops.specs.declared.kinds.KitOp.TheVariants as ops
@@ -82,6 +83,12 @@ module _ {O B P C : Type 0} (w : World O B) (x : World P C) (OfTypes : TypeHandl
     pub valued : w.kind h.content ≡ ops.Constant →
         (v : IntegerAttr) × (attribute_at (w.attributes h.content) CONSTANT_VALUE.now ≡ Some (attrs.Integer v))
     pub own : Every (MayHave (w.kind h.content)) (w.attributes h.content)
+    pub callees : w.kind h.content ≡ ops.Call →
+        option_and_then identifier_in (attribute_at (w.attributes h.content) CALLEE.now)
+        ≡ option_and_then identifier_in (attribute_at (x.attributes k.content) CALLEE.now)
+    pub callee_types : w.kind h.content ≡ ops.Call →
+        AreBoth OfTypes (option_and_then type_in (attribute_at (w.attributes h.content) CALLEE_TYPE.now))
+        (option_and_then type_in (attribute_at (x.attributes k.content) CALLEE_TYPE.now))
 
   -- lists of operations, of blocks, of regions that are alike one by one; blocks of the first have only attributes that
   -- all may have
@@ -109,9 +116,11 @@ module _ {O B P C : Type 0} (w : World O B) (x : World P C) (OfTypes : TypeHandl
     pub known : Every IsCommon (w.block_attributes b.label.content)
     pub listed : AreAlike Operations b.operations d.operations
 
-  -- around two operations are alike operations and blocks, and they stand at the same indices
+  -- around two operations are alike operations, those that they are in and all around these, and alike blocks, and they
+  -- stand at the same indices
   pub record AreAround (a : Around O B) (b : Around P C) : Type 0 where
     pub owners : AreTrees a.owner b.owner
+    pub outer : Pairs AreTrees a.outer b.outer
     pub beside : AreAlike Blocks a.blocks b.blocks
     pub numbers : a.number ≡ b.number
     pub bodies : AreBodies a.body b.body
@@ -124,5 +133,6 @@ module _ {O B P C : Type 0} (w : World O B) (x : World P C) (OfTypes : TypeHandl
 -- whether the rule is kept is told by the types of operands, and so where these are known to be visible
 abbrev pub AreVisibleFirst : Rule → Type 0
 AreVisibleFirst rule.TypesAgree = Unit {0}
+AreVisibleFirst rule.CallsFit = Unit {0}
 AreVisibleFirst rule.ReturnsFit = Unit {0}
 AreVisibleFirst _ = ⊥

@@ -42,7 +42,8 @@ module _ {X : Type 0} where
       ∙ ap (λ (x : X). cond (bytes_eq other key) (Some x) None) same.1
   one_at (x ∷ y ∷ es) key a l e other = absurd (omega arith)
 
-  either_key : (key k m : List ℕ) (v u a : X) → attribute_at ((k, v) ∷ (m, u) ∷ []) key ≡ Some a
+  -- what is under a name of two is under one of their keys
+  pub either_key : (key k m : List ℕ) (v u a : X) → attribute_at ((k, v) ∷ (m, u) ∷ []) key ≡ Some a
       → (key ≡ k) ⊎ (key ≡ m)
   either_key key k m v u a e = by (bytes_eq key k) refl (bytes_eq key m) refl e
     where

@@ -24,15 +24,18 @@ use Rattle.kit_ops.specs.declared.attributes.KitAttr.TheVariants as attrs
 use Rattle.kit_ops.specs.declared.kinds.KitOp.{KitOp}
 use Rattle.kit_ops.specs.declared.kinds.KitOp.TheVariants as ops
 use Rattle.kit_ops.specs.declared.types.KitType.{KitType}
-use Rattle.kit_ops.specs.Keys.{symbol_name, function_type, constant_value}
+use Rattle.kit_ops.specs.Keys.{symbol_name, function_type, constant_value, callee, callee_type}
 use Rattle.kit_checks.specs.Words.{identifier_in, type_in}
-use Rattle.kit.specs.Forms.{OpForm, NamedRegion, TypedRegion, TwoOperands, OneOperand, AnyOperands, form_of}
+use Rattle.kit.specs.Forms.{OpForm, NamedRegion, TypedRegion, TwoOperands, OneOperand, AnyOperands, Empty, Called}
+use Rattle.kit.specs.Forms.{form_of}
 use Rattle.kit.specs.Forms as forms
 use Rattle.kit.specs.Says.{says, only, said_in, said_of_module, said_of_function, said_of_constant, said_of_pair}
+use Rattle.kit.specs.Says.{said_of_call}
 use Rattle.kit.specs.Seen.{seen}
 use Rattle.kit_text_programs.proofs.SaidHeads.{said_parts}
 use Rattle.kit_text_programs.proofs.SaidPrograms.{name_said, bits_said}
-use Rattle.kit_text_programs.proofs.ReadHeads.{Entries, SaidTrees, type_read, integer_read, IsRead, read}
+use Rattle.kit_text_programs.proofs.ReadHeads.{Entries, SaidTrees, type_read, callee_read, integer_read}
+use Rattle.kit_text_programs.proofs.ReadHeads.{IsRead, read}
 use Rattle.kit_text_programs.specs.SameLaws.{types_among}
 use Rattle.kit_text_programs.specs.Meanings.{Attribute, Integer, Name, OfType, attribute_meant, number_meant}
 use Rattle.kit_text_programs.proofs.SaidTexts.AttributeMaps.{no_entries, one_at, two_at, map_one, map_two}
@@ -56,6 +59,8 @@ count_in forms.Value = 1
 count_in TwoOperands = 0
 count_in OneOperand = 0
 count_in AnyOperands = 0
+count_in Empty = 0
+count_in Called = 2
 
 abbrev count_by : Option OpForm → ℕ
 count_by None = 0
@@ -76,6 +81,9 @@ form_count forms.Value es n tys said e =
 form_count TwoOperands es n tys said e = of_count (length es) 0 (n == 2) (said_of_pair tys) said e
 form_count OneOperand es n tys said e = of_count (length es) 0 (n == 1) _ said e
 form_count AnyOperands es n tys said e = (Decides-eqb (length es) 0).0 (only_where (length es == 0) _ said e)
+form_count Empty es n tys said e = of_count (length es) 0 (n == 0) _ said e
+form_count Called es n tys said e = (Decides-eqb (length es) 2).0
+    (only_where (length es == 2) (said_of_call (attribute_at es callee) (attribute_at es callee_type) n) said e)
 
 -- an operation that says something has as many attributes as its form
 counted : (k : KitOp) (es : Entries) (n : ℕ) (tys : List TypeHandle) (kind : ℕ) (said : SaidTrees)
@@ -130,6 +138,15 @@ read_among keys ty (a_tree p (a_tree u ps)) t shown e =
     behind t p (a_tree u ps)
     (subst (λ (z : ValueTree). Has t (types_among (a_tree z ps))) (sym (same_Some u t e ∙ k.2)) (inl k.2))
 
+-- so is the type that is read of a call
+callee_among : (keys : List KitType) (ty : TypeHandle) (ps : Pieces) (t : ValueTree) → ShowsType says keys ty t
+    → callee_read ps ≡ Some t → Has t (types_among ps)
+callee_among keys ty no_tree t shown e = absurd (none-some t e)
+callee_among keys ty (a_tree p no_tree) t shown e = absurd (none-some t e)
+callee_among keys ty (a_tree p (a_tree q no_tree)) t shown e = absurd (none-some t e)
+callee_among keys ty (a_tree p (a_tree q (a_tree u ps))) t shown e =
+    behind t p (a_tree q (a_tree u ps)) (read_among keys ty (a_tree q (a_tree u ps)) t shown e)
+
 -- ---- attributes
 
 first_same : {X : Type 0} (x y : X) (xs ys : List X) → x ∷ xs ≡ y ∷ ys → x ≡ y
@@ -137,6 +154,9 @@ first_same x y xs ys e = cc
 
 keys_apart : symbol_name ≡ function_type → ⊥
 keys_apart e = false≢true ((bytes_eq-Decides symbol_name function_type).1 e)
+
+call_apart : callee ≡ callee_type → ⊥
+call_apart e = false≢true ((bytes_eq-Decides callee callee_type).1 e)
 
 module _ (number_of : ValueTree → ℕ) (code : TypeHandle → ℕ) where
   identified : (o : Option KitAttr) (cs : List ℕ) → option_and_then identifier_in o ≡ Some cs
@@ -189,6 +209,21 @@ module _ (number_of : ValueTree → ℕ) (code : TypeHandle → ℕ) where
           ∙ ap (λ (a : Option Attribute). cond (bytes_eq key symbol_name) (Some (Name (name_said ps)))
           (cond (bytes_eq key function_type) a None)) same
 
+      call_meant : IsRead keys ops.Call es (types_of vs) ps → length es ≡ 2 → IsMeant ops.Call
+      call_meant r l key =
+          let is = r.called refl in
+          let x = identified (attribute_at es callee) (name_said ps) is.5 in
+          let y = typed (attribute_at es callee_type) is.0 is.4 in
+          let same : attribute_meant code y.0 ≡ type_meant number_of (callee_read ps) = y.2
+          ∙ ap (λ (m : ℕ). Some (OfType m)) (numbered_back number_of code keys (map (λ (r : ℕ × ValueTree). r.1) rs) (types_among ps) numbered
+          is.0 is.1 is.2 (callee_among keys is.0 ps is.1 is.2 is.3)) ∙ ap (type_meant number_of) (sym is.3) in
+          ap (option_and_then (attribute_meant code)) (two_at es callee callee_type x.0 y.0 l call_apart x.1 y.1 key)
+          ∙ map_two (attribute_meant code) (bytes_eq key callee) (bytes_eq key callee_type) x.0 y.0
+          ∙ ap (λ (a : Option Attribute). cond (bytes_eq key callee) a
+          (cond (bytes_eq key callee_type) (attribute_meant code y.0) None)) x.2
+          ∙ ap (λ (a : Option Attribute). cond (bytes_eq key callee) (Some (Name (name_said ps)))
+          (cond (bytes_eq key callee_type) a None)) same
+
       constant_meant : IsRead keys ops.Constant es (types_of vs) ps → length es ≡ 1 → IsMeant ops.Constant
       constant_meant r l key =
           let is = r.valued refl in
@@ -221,5 +256,6 @@ module _ (number_of : ValueTree → ℕ) (code : TypeHandle → ℕ) where
       attributes_meant ops.Return e = bare_meant (counted ops.Return es n (types_of vs) kind said e)
       attributes_meant ops.Br e = bare_meant (counted ops.Br es n (types_of vs) kind said e)
       attributes_meant ops.CondBr e = bare_meant (counted ops.CondBr es n (types_of vs) kind said e)
-      attributes_meant ops.Call e = bare_meant (counted ops.Call es n (types_of vs) kind said e)
+      attributes_meant ops.Call e = call_meant (read keys es n (types_of vs) kind said ps shown ops.Call e)
+          (counted ops.Call es n (types_of vs) kind said e)
       attributes_meant ops.ForwardRef e = bare_meant (counted ops.ForwardRef es n (types_of vs) kind said e)

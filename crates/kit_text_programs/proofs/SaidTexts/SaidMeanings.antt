@@ -11,10 +11,10 @@ use Rattle.ir_trees.proofs.Alike.{nothing}
 use Rattle.kit_ops.specs.declared.kinds.KitOp.{KitOp}
 use Rattle.kit_ops.specs.declared.kinds.KitOp.TheVariants as ops
 use Rattle.kit_ops.specs.declared.types.IntegerType.{IntegerType}
-use Rattle.kit_ops.specs.Keys.{symbol_name, function_type, constant_value}
+use Rattle.kit_ops.specs.Keys.{symbol_name, function_type, constant_value, callee, callee_type}
 use Rattle.kit.specs.Forms.{read_ops}
 use Rattle.kit_text_programs.proofs.SaidPrograms.{name_said, bits_said, numbers_in}
-use Rattle.kit_text_programs.proofs.ReadHeads.{type_read, integer_read}
+use Rattle.kit_text_programs.proofs.ReadHeads.{type_read, callee_read, integer_read}
 use Rattle.kit_text_programs.specs.Meanings.{Attribute, Integer, Name, OfType, OperationMeaning, sayings, alone_at}
 
 -- results or arguments of texts
@@ -40,7 +40,7 @@ abbrev pub root_values : Entity ℕ → List ℕ
 root_values (entity h us) = head_values h ++ all_values us
 
 module _ (number : ValueTree → ℕ) where
-  -- the type of a function, where one is read
+  -- the type of a function, where one is read: its own, or the one that a call says
   abbrev pub type_meant : Option ValueTree → Option Attribute
   type_meant None = None
   type_meant (Some t) = Some (OfType (number t))
@@ -62,6 +62,8 @@ module _ (number : ValueTree → ℕ) where
       (cond (bytes_eq key function_type) (type_meant (type_read ps)) None)
   attributes_said ops.Constant rs ps key =
       cond (bytes_eq key constant_value) (integer_meant (first_number rs) (integer_read ps) (bits_said ps)) None
+  attributes_said ops.Call rs ps key = cond (bytes_eq key callee) (Some (Name (name_said ps)))
+      (cond (bytes_eq key callee_type) (type_meant (callee_read ps)) None)
   attributes_said _ rs ps key = None
 
   abbrev pub operation_said : ℕ → Written → Pieces → OperationMeaning

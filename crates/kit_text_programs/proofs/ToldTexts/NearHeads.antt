@@ -25,8 +25,9 @@ use Rattle.kit_ops.specs.declared.attributes.IntegerAttr.{IntegerAttr}
 use Rattle.kit_ops.specs.declared.attributes.KitAttr.{KitAttr}
 use Rattle.kit_ops.specs.declared.attributes.KitAttr.TheVariants as attrs
 use Rattle.kit_ops.specs.declared.types.KitType.{KitType}
-use Rattle.kit_ops.specs.Keys.{symbol_name, function_type, constant_value}
-use Rattle.kit.specs.Forms.{OpForm, NamedRegion, TypedRegion, Value, TwoOperands, OneOperand, AnyOperands}
+use Rattle.kit_ops.specs.Keys.{symbol_name, function_type, constant_value, callee, callee_type}
+use Rattle.kit.specs.Forms.{OpForm, NamedRegion, TypedRegion, Value, TwoOperands, OneOperand, AnyOperands, Empty}
+use Rattle.kit.specs.Forms.{Called}
 use Rattle.kit.specs.Forms.{form_of, number_of}
 use Rattle.kit.specs.Says.{says, one, two}
 use Rattle.kit.specs.Seen.{seen}
@@ -128,6 +129,17 @@ module _ (keys others : List KitType) (code other : TypeHandle → ℕ) (A B : V
   told_same OneOperand es fs n m tys us ps qs h k means count types here there = h ∙ sym k
   told_same AnyOperands es fs n m tys us ps qs h k means count types here there =
       h ∙ (ap (λ (i : ℕ). one (plain (operands i))) count ∙ sym k)
+  told_same Empty es fs n m tys us ps qs h k means count types here there = h ∙ sym k
+  told_same Called es fs n m tys us ps qs h k means count types here there =
+      let names = texts_one (text_of h.0) (text_of k.0) (at_both code other (attribute_at es callee)
+      (attribute_at fs callee) (attrs.Identifier h.0) (attrs.Identifier k.0) (means callee) h.3 k.3) in
+      let codes = types_one (code h.1) (other k.1) (at_both code other (attribute_at es callee_type)
+      (attribute_at fs callee_type) (attrs.«Type» h.1) (attrs.«Type» k.1) (means callee_type) h.4 k.4) in
+      let a = subst (Each A) (ap types_among h.6) here in
+      let b = subst (Each B) (ap types_among k.6) there in
+      let one_type = apart h.1 k.1 h.2 k.2 (a h.2 (type_first keys h.1 h.2 no_tree h.5))
+      (b k.2 (type_first others k.1 k.2 no_tree k.5)) h.5 k.5 codes in
+      h.6 ∙ ((λ i. a_tree (plain (name (names i))) (two (plain (operands (count i))) (one_type i))) ∙ sym k.6)
 
 -- ---- heads
 

@@ -16,13 +16,15 @@ use Rattle.kit_ops.specs.declared.attributes.IntegerAttr.{IntegerAttr}
 use Rattle.kit_ops.specs.declared.attributes.KitAttr.{KitAttr}
 use Rattle.kit_ops.specs.declared.attributes.KitAttr.TheVariants as attrs
 use Rattle.kit_ops.specs.declared.types.KitType.{KitType}
-use Rattle.kit_ops.specs.Keys.{symbol_name, function_type, constant_value}
-use Rattle.kit.specs.Forms.{OpForm, NamedRegion, TypedRegion, Value, TwoOperands, OneOperand, AnyOperands}
+use Rattle.kit_ops.specs.Keys.{symbol_name, function_type, constant_value, callee, callee_type}
+use Rattle.kit.specs.Forms.{OpForm, NamedRegion, TypedRegion, Value, TwoOperands, OneOperand, AnyOperands, Empty}
+use Rattle.kit.specs.Forms.{Called}
 use Rattle.kit.specs.Numbers.{printed_number}
-use Rattle.kit.specs.Readable.{constant_says}
+use Rattle.kit.specs.Readable.{constant_says, call_says}
 use Rattle.kit.specs.Says.{says, one, two, only, has_values, integer_said, said_of_attribute, said_of_module}
-use Rattle.kit.specs.Says.{said_of_function, said_of_constant, pair_said, said_of_pair, said_in}
-use Rattle.kit.specs.Seen.{SeenPiece, one_seen, two_seen, three_seen}
+use Rattle.kit.specs.Says.{said_of_function, said_of_constant, pair_said, said_of_pair, said_of_call}
+use Rattle.kit.specs.Says.{said_in}
+use Rattle.kit.specs.Seen.{SeenPiece, none_seen, one_seen, two_seen, three_seen}
 
 -- attributes under names
 abbrev pub Entries : Type 0
@@ -70,6 +72,10 @@ IsTold keys TwoOperands es n tys ps = (ty : TypeHandle) × (r : ValueTree) × (t
     × ShowsType says keys ty r × (ps ≡ a_tree (plain (operands 1)) (two (plain (operands 1)) r))
 IsTold keys OneOperand es n tys ps = ps ≡ one (plain (operands 1))
 IsTold keys AnyOperands es n tys ps = ps ≡ one (plain (operands n))
+IsTold keys Empty es n tys ps = ps ≡ no_tree
+IsTold keys Called es n tys ps = (id : Identifier) × (ty : TypeHandle) × (r : ValueTree)
+    × (attribute_at es callee ≡ Some (attrs.Identifier id)) × (attribute_at es callee_type ≡ Some (attrs.«Type» ty))
+    × ShowsType says keys ty r × (ps ≡ a_tree (plain (name (text_of id))) (two (plain (operands n)) r))
 
 module _ (keys : List KitType) where
   -- ---- pieces
@@ -210,6 +216,32 @@ module _ (keys : List KitType) where
         let below = subst AreBare k.1 bare in
         k.1 ∙ ap (λ (p : ValueTree). one p) (is_plain (operands m) (λ us c. c) k.0 k.2.0 k.2.1 below.0)
 
+    -- what an operation tells that says nothing
+    empty_told : (said : SaidTrees) → ◌≡◌ {A = Option SaidTrees} (Some no_tree) (Some said) → ShowsAll says keys said ps
+        → ps ≡ no_tree
+    empty_told said e h =
+        let none : SaidTrees = no_tree in
+        none_seen says keys ps (subst (λ (x : SaidTrees). ShowsAll says keys x ps) (sym (same_Some none said e)) h)
+
+    -- what a call tells
+    call_told : (said : SaidTrees) → said_of_call (attribute_at es callee) (attribute_at es callee_type) n ≡ Some said
+        → ShowsAll says keys said ps → IsTold keys Called es n tys ps
+    call_told said e h =
+        let is = call_says (attribute_at es callee) (attribute_at es callee_type) n said e in
+        let k = three_seen says keys (leaf (said_name (text_of is.name))) (leaf (said_operands n))
+        (leaf (said_type is.type)) ps (subst (λ (x : SaidTrees). ShowsAll says keys x ps) (sym is.says_it) h) in
+        let below = subst AreBare k.3 bare in
+        let first = is_plain (name (text_of is.name)) (λ us c. c) k.0 k.4.0 k.4.1 below.0 in
+        let second = is_plain (operands n) (λ us c. c) k.1 k.5.0 k.5.1 below.1.0 in (
+          is.name,
+          is.type,
+          k.2,
+          is.has_name,
+          is.has_type,
+          type_shown is.type k.2 k.6,
+          k.3 ∙ (λ i. a_tree (first i) (two (second i) k.2)),
+        )
+
     -- what is said in a form and shown is told
     pub told : (form : OpForm) (said : SaidTrees) → said_in form es n tys ≡ Some said → ShowsAll says keys said ps
         → IsTold keys form es n tys ps
@@ -229,3 +261,7 @@ module _ (keys : List KitType) where
         operands_told 1 said (only_some (length es == 0 && n == 1) (Some (one (leaf (said_operands 1)))) said e) h
     told AnyOperands said e h =
         operands_told n said (only_some (length es == 0) (Some (one (leaf (said_operands n)))) said e) h
+    told Empty said e h = empty_told said (only_some (length es == 0 && n == 0) (Some no_tree) said e) h
+    told Called said e h =
+        call_told said (only_some (length es == 2)
+        (said_of_call (attribute_at es callee) (attribute_at es callee_type) n) said e) h

@@ -8,8 +8,10 @@ use Rattle.ir_print.specs.Pieces.{type_of_kind, attribute_of_kind, list, item, o
 use Rattle.ir_print.specs.Pieces.{ValueTree, Pieces, operation, a_region, block, Entity, entity, Entities, no_entity}
 use Rattle.ir_print.specs.Pieces.{an_entity}
 use Rattle.kit_language.specs.Language.{kit_language}
-use Rattle.kit.specs.Forms.{OpForm, NamedRegion, TypedRegion, Value, TwoOperands, OneOperand, AnyOperands}
-use Rattle.kit.specs.Says.{values, form_at, integer_types, constant_types, pair_types, result_types_in}
+use Rattle.kit.specs.Forms.{OpForm, NamedRegion, TypedRegion, Value, TwoOperands, OneOperand, AnyOperands, Empty}
+use Rattle.kit.specs.Forms.{Called}
+use Rattle.kit.specs.Says.{values, form_at, integer_types, constant_types, pair_types, member_types, types_returned}
+use Rattle.kit.specs.Says.{call_types, result_types_in}
 use Rattle.kit.specs.Says.{result_types_by}
 use Rattle.opt_trees.specs.Occurrences.{Has}
 use Rattle.opt_trees.proofs.NoneDead.{has-append}
@@ -79,6 +81,31 @@ pair_bare (a_tree t (a_tree u (a_tree v no_tree))) b r (inl e) = subst IsBare (s
 pair_bare (a_tree t (a_tree u (a_tree v no_tree))) b r (inr h) = absurd h
 pair_bare (a_tree t (a_tree u (a_tree v (a_tree w ts)))) b r h = absurd h
 
+-- the types of the members of a list, and of the results of a function type, which pieces of a call end with
+members_bare : (ts : Pieces) → AreBare ts → AllBare (member_types ts)
+members_bare no_tree b r h = absurd h
+members_bare (a_tree (node item (a_tree t no_tree)) ts) b r (inl e) = subst IsBare (sym e) b.0.0
+members_bare (a_tree (node item (a_tree t no_tree)) ts) b r (inr h) = members_bare ts b.1 r h
+members_bare (a_tree (node item no_tree) ts) b r h = members_bare ts b.1 r h
+members_bare (a_tree (node item (a_tree t (a_tree u us))) ts) b r h = members_bare ts b.1 r h
+members_bare (a_tree (node list us) ts) b r h = members_bare ts b.1 r h
+members_bare (a_tree (node (attribute_of_kind n) us) ts) b r h = members_bare ts b.1 r h
+members_bare (a_tree (node (type_of_kind n) us) ts) b r h = members_bare ts b.1 r h
+members_bare (a_tree (node (operands n) us) ts) b r h = members_bare ts b.1 r h
+members_bare (a_tree (node region us) ts) b r h = members_bare ts b.1 r h
+members_bare (a_tree (node (name cs) us) ts) b r h = members_bare ts b.1 r h
+members_bare (a_tree (node (number m n) us) ts) b r h = members_bare ts b.1 r h
+members_bare (a_tree (node (width s n) us) ts) b r h = members_bare ts b.1 r h
+
+returned_bare : (t : ValueTree) → IsBare t → AllBare (types_returned t)
+returned_bare (node (type_of_kind (suc zero)) (a_tree t (a_tree (node list us) no_tree))) b r h =
+    members_bare us b.1.0 r h
+returned_bare _ b r h = absurd h
+
+call_bare : (ts : Pieces) → AreBare ts → AllBare (call_types ts)
+call_bare (a_tree t (a_tree u (a_tree v no_tree))) b r h = returned_bare v b.1.1.0 r h
+call_bare _ b r h = absurd h
+
 -- the types of results
 results_in_bare : (form : OpForm) (ts : Pieces) → AreBare ts → AllBare (result_types_in form ts)
 results_in_bare Value ts b r h = constant_bare ts r h
@@ -87,6 +114,8 @@ results_in_bare NamedRegion ts b r h = absurd h
 results_in_bare TypedRegion ts b r h = absurd h
 results_in_bare OneOperand ts b r h = absurd h
 results_in_bare AnyOperands ts b r h = absurd h
+results_in_bare Empty ts b r h = one_bare (node (type_of_kind 2) no_tree) tt r h
+results_in_bare Called ts b r h = call_bare ts b r h
 
 results_bare : (form : Option OpForm) (ts : Pieces) → AreBare ts → AllBare (result_types_by form ts)
 results_bare None ts b r h = absurd h

@@ -15,3 +15,7 @@ returns-in-Arithmetic c = rw c.in-Arithmetic.is (simp step_rules refl)
 pub returns-in-Comparison : goal.returns-in-Comparison
 unfolding trim_start trim_end chars encode
 returns-in-Comparison c = rw c.in-Comparison.is (simp step_rules refl)
+
+pub returns-in-Call : goal.returns-in-Call
+unfolding trim_start trim_end chars encode
+returns-in-Call c = rw c.in-Call.is (simp step_rules refl)

@@ -2,7 +2,6 @@ use Rattle.kit.specs.Making.{RefusesForm}
 use Rattle.std.proofs.lemmas.Result.{IfOk-from_err}
 use Rattle.kit.proofs.Made.{refused_at, memory_refuses_none}
 use Rattle.std.proofs.Common.{sym, ap, ◌∙◌, refl}
-use Rattle.kit_ops.specs.declared.attributes.KitAttr.TheVariants as attrs
 use Rattle.kit.specs.Forms.{Value}
 use Rattle.kit.proofs.Drafted.{drafted, constant_made, constant_refused}
 use Rattle.kit.proofs.operations.make_constant.Goals as goal

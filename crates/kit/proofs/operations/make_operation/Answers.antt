@@ -1,5 +1,5 @@
 use Rattle.std.proofs.Common.{ap, refl}
-use Rattle.kit.specs.Forms.{NamedRegion, TypedRegion, Value, TwoOperands, OneOperand, AnyOperands, form_of}
+use Rattle.kit.specs.Forms.{NamedRegion, TypedRegion, Value, TwoOperands, OneOperand, AnyOperands, Empty, Called, form_of}
 use Rattle.kit.proofs.Numbered.{operation_made, operation_made_of, operation_refused, unread_refused}
 use Rattle.kit.proofs.operations.make_operation.Goals as goal
 
@@ -46,7 +46,7 @@ pub returns-in-Constant-clause-refused : goal.returns-in-Constant-clause-refused
 returns-in-Constant-clause-refused c = λ i f. operation_refused c.args.kind Value c.args.parts.now c.args.ctx.now.types.keys i (ap form_of c.in-Constant.is) (c.make_constant.ensures.refused i f)
 
 pub returns-in-ForwardRef-clause-refused : goal.returns-in-ForwardRef-clause-refused
-returns-in-ForwardRef-clause-refused c = λ i f. unread_refused c.args.kind c.args.parts.now c.args.ctx.now.types.keys i (ap form_of c.in-ForwardRef.is) f
+returns-in-ForwardRef-clause-refused c = λ i f. operation_refused c.args.kind Empty c.args.parts.now c.args.ctx.now.types.keys i (ap form_of c.in-ForwardRef.is) (c.make_of_nothing.ensures.refused i f)
 
 pub returns-in-Br-clause-refused : goal.returns-in-Br-clause-refused
 returns-in-Br-clause-refused c = λ i f. unread_refused c.args.kind c.args.parts.now c.args.ctx.now.types.keys i (ap form_of c.in-Br.is) f
@@ -55,7 +55,7 @@ pub returns-in-CondBr-clause-refused : goal.returns-in-CondBr-clause-refused
 returns-in-CondBr-clause-refused c = λ i f. unread_refused c.args.kind c.args.parts.now c.args.ctx.now.types.keys i (ap form_of c.in-CondBr.is) f
 
 pub returns-in-Call-clause-refused : goal.returns-in-Call-clause-refused
-returns-in-Call-clause-refused c = λ i f. unread_refused c.args.kind c.args.parts.now c.args.ctx.now.types.keys i (ap form_of c.in-Call.is) f
+returns-in-Call-clause-refused c = λ i f. operation_refused c.args.kind Called c.args.parts.now c.args.ctx.now.types.keys i (ap form_of c.in-Call.is) (c.make_call.ensures.refused i f)
 
 pub returns-in-Module-clause-program : goal.returns-in-Module-clause-program
 returns-in-Module-clause-program c = refl
@@ -94,10 +94,10 @@ pub returns-in-Return-clause-types : goal.returns-in-Return-clause-types
 returns-in-Return-clause-types c = λ ty key e. (e, refl)
 
 pub returns-in-ForwardRef-clause-program : goal.returns-in-ForwardRef-clause-program
-returns-in-ForwardRef-clause-program c = refl
+returns-in-ForwardRef-clause-program c = c.make_of_nothing.ensures.program
 
 pub returns-in-ForwardRef-clause-types : goal.returns-in-ForwardRef-clause-types
-returns-in-ForwardRef-clause-types c = λ ty key e. (e, refl)
+returns-in-ForwardRef-clause-types c = c.make_of_nothing.ensures.types
 
 pub returns-in-Br-clause-program : goal.returns-in-Br-clause-program
 returns-in-Br-clause-program c = refl
@@ -118,7 +118,7 @@ pub returns-in-Call-clause-types : goal.returns-in-Call-clause-types
 returns-in-Call-clause-types c = λ ty key e. (e, refl)
 
 pub returns-in-ForwardRef-clause-made : goal.returns-in-ForwardRef-clause-made
-returns-in-ForwardRef-clause-made c = tt
+returns-in-ForwardRef-clause-made c = operation_made c.make_of_nothing.result (λ d. d.attributes) (λ d. d.result_types.items) c.args.kind Empty c.args.parts.now c.args.ctx.now.types.keys c.make_of_nothing.new.ctx.types.keys (ap form_of c.in-ForwardRef.is) c.make_of_nothing.ensures.made
 
 pub returns-in-Br-clause-made : goal.returns-in-Br-clause-made
 returns-in-Br-clause-made c = tt
@@ -127,7 +127,7 @@ pub returns-in-CondBr-clause-made : goal.returns-in-CondBr-clause-made
 returns-in-CondBr-clause-made c = tt
 
 pub returns-in-Call-clause-made : goal.returns-in-Call-clause-made
-returns-in-Call-clause-made c = tt
+returns-in-Call-clause-made c = operation_made c.make_call.result (λ d. d.attributes) (λ d. d.result_types.items) c.args.kind Called c.args.parts.now c.args.ctx.now.types.keys c.args.ctx.now.types.keys (ap form_of c.in-Call.is) c.make_call.ensures.made
 
 pub returns-in-Constant-clause-program : goal.returns-in-Constant-clause-program
 returns-in-Constant-clause-program c = c.make_constant.ensures.program

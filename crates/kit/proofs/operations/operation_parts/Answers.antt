@@ -1,15 +1,16 @@
-use Rattle.std.proofs.Common.{[], ◌∷◌, ap, ◌∙◌, length}
+use Rattle.std.proofs.Common.{ℕ, [], ◌∷◌, ap, ◌∙◌, length, subst}
+use Rattle.std.specs.Result.{IfOk}
 use Rattle.ir_names.specs.Dictionary.{attribute_at}
 use Rattle.ir_print.specs.Shown.{ShowsParts}
 use Rattle.ir_print.specs.declared.format.Part.TheVariants as part
 use Rattle.ir_program.specs.Program.{results_at}
 use Rattle.ir_program.specs.Rows.{operands_at}
 use Rattle.text_dialect.specs.Seen.{types_of}
-use Rattle.kit_ops.specs.Keys.{symbol_name, function_type}
-use Rattle.kit.specs.Forms.{NamedRegion, TypedRegion, Value, TwoOperands, OneOperand, AnyOperands, form_of}
-use Rattle.kit.specs.Parts.{AreModuleParts, AreFunctionParts}
+use Rattle.kit_ops.specs.Keys.{symbol_name, function_type, callee, callee_type}
+use Rattle.kit.specs.Forms.{NamedRegion, TypedRegion, Value, TwoOperands, OneOperand, AnyOperands, Empty, Called, form_of}
+use Rattle.kit.specs.Parts.{AreModuleParts, AreFunctionParts, AreCallParts}
 use Rattle.kit.specs.Says.{says}
-use Rattle.kit.proofs.Parted.{if_ok, seen_kind, seen_entries, seen_results, seen_operands, said_as, says_none, named_region_parted, typed_region_parted, value_parted, two_operands_parted, any_operands_parted, one_operand_parted}
+use Rattle.kit.proofs.Parted.{if_ok, seen_kind, seen_entries, seen_results, seen_operands, said_as, says_none, named_region_parted, typed_region_parted, value_parted, two_operands_parted, any_operands_parted, one_operand_parted, called_parted, empty_parted}
 use Rattle.kit.proofs.operations.operation_parts.Goals as goal
 
 pub returns-in-Module : goal.returns-in-Module
@@ -64,7 +65,11 @@ returns-in_ok-vec-in-Return c = λ types o n us ps at e h.
     (ap length (seen_operands c.args.ctx.now.program c.args.op o at)) (ap types_of (seen_results c.args.ctx.now.program c.args.op o at)) e) h
 
 pub returns-in-ForwardRef : goal.returns-in-ForwardRef
-returns-in-ForwardRef c = λ types o n us ps at e h. says_none c.kind.result o n us (seen_kind c.args.ctx.now.program c.args.op o at c.kind.result c.kind.ensures) (ap form_of c.in-ForwardRef.is) e
+returns-in-ForwardRef c = λ types o n us ps at e h.
+    empty_parted types c.deref.result.now.attributes (length (operands_at c.args.ctx.now.program c.args.op)) (types_of (results_at c.args.ctx.now.program c.args.op)) c.new.result.items us ps c.new.ensures.items
+    (said_as c.kind.result Empty c.deref.result.now.attributes (length (operands_at c.args.ctx.now.program c.args.op)) (types_of (results_at c.args.ctx.now.program c.args.op)) o n us
+    (seen_kind c.args.ctx.now.program c.args.op o at c.kind.result c.kind.ensures) (ap form_of c.in-ForwardRef.is) (seen_entries c.args.ctx.now.program c.args.op o at c.deref.result.now c.deref.ensures)
+    (ap length (seen_operands c.args.ctx.now.program c.args.op o at)) (ap types_of (seen_results c.args.ctx.now.program c.args.op o at)) e) h
 
 pub returns-in-Br : goal.returns-in-Br
 returns-in-Br c = λ types o n us ps at e h. says_none c.kind.result o n us (seen_kind c.args.ctx.now.program c.args.op o at c.kind.result c.kind.ensures) (ap form_of c.in-Br.is) e
@@ -73,4 +78,10 @@ pub returns-in-CondBr : goal.returns-in-CondBr
 returns-in-CondBr c = λ types o n us ps at e h. says_none c.kind.result o n us (seen_kind c.args.ctx.now.program c.args.op o at c.kind.result c.kind.ensures) (ap form_of c.in-CondBr.is) e
 
 pub returns-in-Call : goal.returns-in-Call
-returns-in-Call c = λ types o n us ps at e h. says_none c.kind.result o n us (seen_kind c.args.ctx.now.program c.args.op o at c.kind.result c.kind.ensures) (ap form_of c.in-Call.is) e
+returns-in-Call c = λ types o n us ps at e h.
+    let said = said_as c.kind.result Called c.deref.result.now.attributes (length (operands_at c.args.ctx.now.program c.args.op)) (types_of (results_at c.args.ctx.now.program c.args.op)) o n us
+    (seen_kind c.args.ctx.now.program c.args.op o at c.kind.result c.kind.ensures) (ap form_of c.in-Call.is) (seen_entries c.args.ctx.now.program c.args.op o at c.deref.result.now c.deref.ensures)
+    (ap length (seen_operands c.args.ctx.now.program c.args.op o at)) (ap types_of (seen_results c.args.ctx.now.program c.args.op o at)) e in
+    if_ok c.call_parts.result (λ parts. AreCallParts (attribute_at c.deref.result.now.attributes callee) (attribute_at c.deref.result.now.attributes callee_type) (length (operands_at c.args.ctx.now.program c.args.op)) parts.items) (λ parts. ShowsParts says types parts.items ps)
+    (subst (λ (k : ℕ). IfOk c.call_parts.result (λ parts. AreCallParts (attribute_at c.deref.result.now.attributes callee) (attribute_at c.deref.result.now.attributes callee_type) k parts.items)) c.get_num_operands-in-Call.ensures c.call_parts.ensures)
+    (λ parts are. called_parted types c.deref.result.now.attributes (length (operands_at c.args.ctx.now.program c.args.op)) (types_of (results_at c.args.ctx.now.program c.args.op)) parts.items us ps are said h)
