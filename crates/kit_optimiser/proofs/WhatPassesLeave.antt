@@ -7,7 +7,7 @@ use Rattle.ir_trees.specs.Stands.{by_handle, StandsFor}
 use Rattle.ir_trees.proofs.OneTree.{one_tree}
 use Rattle.ir_types.specs.Interned.{key_at}
 use Rattle.ir_types.specs.Views.{TypesView}
-use Rattle.opt_trees.specs.Simplify.{IsSimplify}
+use Rattle.opt_trees.specs.Simplify.{IsLocal, IsSimplify}
 use Rattle.kit.specs.declared.dialect.Unused.{Unused}
 use Rattle.kit.specs.Meaning.{kit}
 use Rattle.kit_behaviour.specs.PassLists.{SccpPass, DcePass, SimplifyPass}
@@ -98,15 +98,16 @@ module _ (old new : KitContext) (root : Ptr Operation) (held : HoldsModule old r
   removed obey write made = leaves (IsTreePass {N = by_handle} DcePass) (record {
     rules = λ t u stands m typed. obey m.around (key_at old.types) (type_at old.program) (type_at new.program) t u
         (good t stands) m.is typed;
-    writes = λ t u stands m w. write old.types.keys m.around t u w m.is;
+    writes = λ t u stands m w. write old.types.keys m.around t u w (good t stands).apart.operations m.is;
   }) made
 
   pub simplified : SimplifiedKeepsRules → SimplifyStaysWritable
       → ((t : KitTree) → StandsFor old.program root t → DefinersApart t)
+      → ((t : KitTree) → StandsFor old.program root t → IsLocal t)
       → LeavesTree old.program new.program root (λ t u. IsSimplifiedAlone {N = by_handle} t u)
       → IsPassed SimplifyPass old new root
-  simplified obey write apart made = leaves (IsTreePass {N = by_handle} SimplifyPass) (record {
+  simplified obey write apart local made = leaves (IsTreePass {N = by_handle} SimplifyPass) (record {
     rules = λ t u stands m typed. obey m.around (key_at old.types) (type_at old.program) (type_at new.program) t u
         (good t stands) (apart t stands) (simply t u m) typed;
-    writes = λ t u stands m w. write old.types.keys m.around t u w (simply t u m);
+    writes = λ t u stands m w. write old.types.keys m.around t u w (local t stands) (simply t u m);
   }) made

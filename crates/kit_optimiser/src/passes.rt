@@ -21,7 +21,7 @@ use kit_pass_rules::{
     dce_keeps_rules, know_definers, know_handles_and_types, sccp_keeps_rules, simplify_keeps_rules,
 };
 use kit_ruled_passes::{
-    dce_stays_apart, know_determined, know_no_live_use, know_premises, know_propagated,
+    dce_stays_apart, know_determined, know_edges, know_no_live_use, know_premises, know_propagated,
     know_surroundings, removed_stand_alone, sccp_stays_apart, simplified_stand_alone,
     simplify_stays_apart,
 };
@@ -138,6 +138,7 @@ pub fn simplify_control_flow(
     ensures types { ctx.new.types ≡ ctx.old.types }
 {
     know_premises(ctx, root);
+    know_edges(ctx, root, root);
     know_handles_and_types(ctx, root);
     know_definers(ctx, root);
     know_surroundings(ctx, root);

@@ -6,6 +6,8 @@ pub mod Scopes
 pub mod ScopesAfter
 pub mod ScopeUses
 pub mod ScopesOfRules
+pub mod EdgesOfRules
+pub mod LocalOfScoped
 pub mod NoCircles
 pub mod Homes
 pub mod KeptScopes

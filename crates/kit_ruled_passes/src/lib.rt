@@ -4,6 +4,7 @@
 #![tactic(auto)]
 
 mod apart;
+mod edges;
 mod live_uses;
 mod naming;
 mod operands;
@@ -14,6 +15,7 @@ mod surroundings;
 ghost use Rattle.kit_ruled_passes.specs.Laws.{RemovedStandAlone, SimplifiedStandAlone};
 
 pub use apart::{dce_stays_apart, sccp_stays_apart, simplify_stays_apart};
+pub use edges::know_edges;
 pub use live_uses::know_no_live_use;
 pub use naming::know_propagated;
 pub use operands::know_determined;

@@ -2,26 +2,23 @@
 use Rattle.std.proofs.Common.{◌≡◌, ℕ, zero, suc, Bool, true, false, List, ◌++◌, length, refl, sym, ap, subst}
 use Rattle.std.specs.Prelude.{if◌then◌else◌, slice_get}
 use Rattle.ir_forest.specs.Closed.{AllDistinct}
-use Rattle.ir_program.specs.declared.handles.Operation.{Operation}
-use Rattle.ir_program.specs.declared.handles.Ptr.{Ptr}
 use Rattle.ir_trees.specs.Names.{Names}
 use Rattle.ir_trees.specs.Trees.{Head, Label, Sort, Blocks, Regions, Tree, end, operation, block, region}
 use Rattle.kit.specs.Meaning.{changed_at, without_names, kit}
 use Rattle.kit_ops.specs.Keys.{given_names}
 use Rattle.kit_ops.specs.declared.types.KitType.{KitType}
-use Rattle.kit_pass_rules.proofs.DceVisible.{if_not}
 use Rattle.kit_views.proofs.Dropped.{drop_none}
 use Rattle.kit_views.specs.Reading.{kit_contents}
 use Rattle.kit_written_trees.specs.PassLaws.{DceStaysWritable}
-use Rattle.kit_written_trees.proofs.HeadLemmas.{dropped_same, no_branches, head_like}
+use Rattle.kit_written_trees.proofs.EdgeLemmas.{LosesAtBranches, AllLoseAtBranches, loses_at_branches}
+use Rattle.kit_written_trees.proofs.EdgeLemmas.{all_lose_at_branches}
+use Rattle.kit_written_trees.proofs.HeadLemmas.{dropped_same, head_no_branch, head_like}
 use Rattle.kit_written_trees.proofs.ListLemmas.{types_left, written_left}
 use Rattle.kit_writable_trees.specs.Writable.{types_in, count_of, label_text, labels_in, AreWritten, IsWritableHead, IsWritableLabel, IsWritable, IsWritableRoot}
 use Rattle.opt_trees.specs.Dce.{Whole, Gone, gone_at, thin_head, thin_label, thin}
 use Rattle.opt_trees.specs.Occurrences.{at_root}
-use Rattle.opt_trees.proofs.NoneDead.{true_false}
 
-module _ {N : Names} (types : List KitType) (g : Gone N)
-    (none : (a : N.operation) (i : ℕ) → g.operand a i ≡ false) where
+module _ {N : Names} (types : List KitType) (g : Gone N) where
   -- regions and blocks stay
   count_left : (rs : Tree N kit_contents Regions) → count_of (thin kit g rs) ≡ count_of rs
   count_left end = refl
@@ -31,16 +28,18 @@ module _ {N : Names} (types : List KitType) (g : Gone N)
   labels_left end = refl
   labels_left (block l os rest) = ap (λ ls. label_text l.content.label ++ ls) (labels_left rest)
 
-  head_left : (d n m : ℕ) (h : Head N kit_contents) → m ≡ n → IsWritableHead types d n h →
+  -- what can be written is no branch, and loses no operand
+  head_left : (d n m : ℕ) (h : Head N kit_contents) → LosesAtBranches g h → m ≡ n → IsWritableHead types d n h →
       IsWritableHead types d m (thin_head kit g h)
-  head_left d n m h count w = head_like types d n m h (thin_head kit g h)
+  head_left d n m h lose count w = head_like types d n m h (thin_head kit g h)
       (record {
         kind = refl;
         attributes = dropped_same h.content.kind (g.operand h.name) h.content.notes.attributes (length h.operands)
             (types_in h.results) (w.kind, w.said) w.says_it;
-        operands = ap length (drop_none (g.operand h.name) h.operands (none h.name));
+        operands = ap length
+            (drop_none (g.operand h.name) h.operands (lose.others (head_no_branch types d n h w)));
         results = refl;
-        successors = λ e. e;
+        successors = refl;
       })
       count w
 
@@ -56,31 +55,33 @@ module _ {N : Names} (types : List KitType) (g : Gone N)
             (written_left types d p (types_in l.arguments) w.arguments);
       }
 
-  pub left_writable : {s : Sort} (d : ℕ) (x : Tree N kit_contents s) → IsWritable types d x →
+  pub left_writable : {s : Sort} (d : ℕ) (x : Tree N kit_contents s) → AllLoseAtBranches g x → IsWritable types d x →
       IsWritable types d (thin kit g x)
-  left_writable d end w = tt
-  left_writable d (operation h rs rest) w =
-      step (g.item (Whole h.name)) (left_writable d rs w.1) (left_writable d rest w.2)
+  left_writable d end lose w = tt
+  left_writable d (operation h rs rest) lose w =
+      step (g.item (Whole h.name)) (left_writable d rs lose.1 w.1) (left_writable d rest lose.2 w.2)
     where
       step : (b : Bool) → IsWritable types d (thin kit g rs) → IsWritable types d (thin kit g rest) →
           IsWritable types d
           (if b then thin kit g rest else operation (thin_head kit g h) (thin kit g rs) (thin kit g rest))
       step true a b = b
-      step false a b = (head_left d (count_of rs) (count_of (thin kit g rs)) h (count_left rs) w.0, a, b)
-  left_writable d (block l os rest) w = (label_left d l w.0, left_writable d os w.1, left_writable d rest w.2)
-  left_writable zero (region bs rest) w = absurd w.0
-  left_writable (suc d) (region bs rest) w =
-      (left_writable d bs w.0, subst AllDistinct (sym (labels_left bs)) w.1, left_writable (suc d) rest w.2)
+      step false a b =
+          (head_left d (count_of rs) (count_of (thin kit g rs)) h lose.0 (count_left rs) w.0, a, b)
+  left_writable d (block l os rest) lose w =
+      (label_left d l w.0, left_writable d os lose.0 w.1, left_writable d rest lose.1 w.2)
+  left_writable zero (region bs rest) lose w = absurd w.0
+  left_writable (suc d) (region bs rest) lose w = (
+    left_writable d bs lose.0 w.0,
+    subst AllDistinct (sym (labels_left bs)) w.1,
+    left_writable (suc d) rest lose.1 w.2,
+  )
 
 pub dce_law : DceStaysWritable
-dce_law = λ types w t after writable dce.
+dce_law = λ types w t after writable apart dce.
     let g = dce.gone in
-    -- operands are lost by branches alone, and there is none
-    let none : (a : Ptr Operation) (i : ℕ) → g.operand a i ≡ false = λ a i. if_not (g.operand a i) (λ q.
-    let l = dce.is_gone.lost a i q in
-    true_false (kit.is_branch l.user.head.content) l.forwards.branch
-    (no_branches types 64 t.regions (at_root t) writable.regions l.user l.stands)) in
+    let lose : AllLoseAtBranches g t.regions = all_lose_at_branches g t.regions (at_root t)
+    (loses_at_branches w t g dce.is_gone apart) in
     subst (IsWritableRoot types) (sym dce.is) (record {
-      head = subst (λ n. IsWritableHead types 64 n t.head) (sym (count_left types g none t.regions)) writable.head;
-      regions = left_writable types g none 64 t.regions writable.regions;
+      head = subst (λ n. IsWritableHead types 64 n t.head) (sym (count_left types g t.regions)) writable.head;
+      regions = left_writable types g 64 t.regions lose writable.regions;
     })

@@ -1,13 +1,16 @@
 -- Where a value is defined that can be written, at least one type may be.
-use Rattle.std.proofs.Common.{◌≡◌, ℕ, zero, suc, List, [], ◌∷◌, Option, Some, None, refl, sym, ◌∙◌, subst}
+use Rattle.std.proofs.Common.{◌≡◌, ℕ, zero, suc, List, [], ◌∷◌, refl, sym, ◌∙◌, subst}
 use Rattle.ir_base.specs.declared.types.TypeHandle.{TypeHandle}
 use Rattle.ir_names.specs.Tree.{node, no_tree, a_tree}
 use Rattle.ir_print.specs.Layout.{Deeper, IsFlat, AreFlat}
 use Rattle.ir_print.specs.Pieces.{type_of_kind, attribute_of_kind, list, item, operands, region, name, number, width, ValueTree, Pieces}
 use Rattle.ir_print.specs.Shown.{Pairs, ShowsType}
 use Rattle.kit_ops.specs.declared.types.KitType.{KitType}
-use Rattle.kit.specs.Forms.{OpForm, NamedRegion, TypedRegion, Value, TwoOperands, OneOperand, AnyOperands}
-use Rattle.kit.specs.Says.{says, integer_types, constant_types, pair_types, result_types_by}
+use Rattle.kit_ops.specs.declared.kinds.KitOp.{KitOp}
+use Rattle.kit_ops.specs.declared.kinds.KitOp.TheVariants as ops
+use Rattle.kit.specs.Forms.{form_of}
+use Rattle.kit.specs.Says.{says, integer_types, constant_types, pair_types, types_returned, call_types}
+use Rattle.kit.specs.Says.{result_types_by}
 
 -- it is one more than this
 abbrev pub IsAbove : ℕ → Type 0
@@ -36,15 +39,6 @@ pair_flat : (d : ℕ) (ps : Pieces) → AreFlat d ps → AllFlat d (pair_types p
 pair_flat d (a_tree x (a_tree y (a_tree t no_tree))) h = (h.1.1.0, tt)
 pair_flat d _ h = tt
 
-results_flat : (form : Option OpForm) (d : ℕ) (ps : Pieces) → AreFlat d ps → AllFlat d (result_types_by form ps)
-results_flat None d ps h = tt
-results_flat (Some NamedRegion) d ps h = tt
-results_flat (Some TypedRegion) d ps h = tt
-results_flat (Some Value) d ps h = constant_flat d ps h
-results_flat (Some TwoOperands) d ps h = pair_flat d ps h
-results_flat (Some OneOperand) d ps h = tt
-results_flat (Some AnyOperands) d ps h = tt
-
 -- ---- a type is one deep at least
 
 module _ (types : List KitType) where
@@ -66,9 +60,34 @@ module _ (types : List KitType) where
   first_above d ty tys [] h f = absurd h
   first_above d ty tys (t ∷ ts) h f = type_above d ty t h.0 (f t ts refl)
 
-  -- so it is where an operation has a result
-  pub results_above : (d : ℕ) (ty : TypeHandle) (tys : List TypeHandle) (shapes : List ValueTree) (form : Option OpForm)
-      (ps : Pieces) → Pairs (ShowsType says types) (ty ∷ tys) shapes →
-      shapes ≡ result_types_by form ps → AreFlat d ps → IsAbove d
-  results_above d ty tys shapes form ps h e f = first_above d ty tys shapes h
-      (λ t ts same. let all : AllFlat d (t ∷ ts) = subst (AllFlat d) (sym e ∙ same) (results_flat form d ps f) in all.0)
+  -- so it is where an operation has a result, but for one that has nothing behind its name
+  pub results_above : (k : KitOp) → (k ≡ ops.ForwardRef → ⊥) → (d : ℕ) (ty : TypeHandle) (tys : List TypeHandle)
+      (shapes : List ValueTree) (ps : Pieces) → Pairs (ShowsType says types) (ty ∷ tys) shapes →
+      shapes ≡ result_types_by (form_of k) ps → AreFlat d ps → IsAbove d
+  results_above k other d ty tys shapes ps h e f = by k other e
+    where
+      flat_first : (rs : List ValueTree) → AllFlat d rs → shapes ≡ rs → IsAbove d
+      flat_first rs all is = first_above d ty tys shapes h
+          (λ t ts same. let flat : AllFlat d (t ∷ ts) = subst (AllFlat d) (sym is ∙ same) all in flat.0)
+
+      -- the type of the function that is called
+      returned : (t : ValueTree) → IsFlat d t → shapes ≡ types_returned t → IsAbove d
+      returned (node (type_of_kind n) ts) g is = above d (λ e. AreFlat e ts) g
+      returned _ g is = absurd (subst (Pairs (ShowsType says types) (ty ∷ tys)) is h)
+
+      called : (us : Pieces) → AreFlat d us → shapes ≡ call_types us → IsAbove d
+      called (a_tree x (a_tree y (a_tree t no_tree))) g is = returned t g.1.1.0 is
+      called _ g is = absurd (subst (Pairs (ShowsType says types) (ty ∷ tys)) is h)
+
+      by : (i : KitOp) → (i ≡ ops.ForwardRef → ⊥) → shapes ≡ result_types_by (form_of i) ps → IsAbove d
+      by ops.Constant n is = flat_first (constant_types ps) (constant_flat d ps f) is
+      by (ops.Arithmetic a) n is = flat_first (pair_types ps) (pair_flat d ps f) is
+      by (ops.Comparison c) n is = flat_first (pair_types ps) (pair_flat d ps f) is
+      by ops.Call n is = called ps f is
+      by ops.ForwardRef n is = absurd (n refl)
+      by ops.Module n is = flat_first [] tt is
+      by ops.Func n is = flat_first [] tt is
+      by ops.Emit n is = flat_first [] tt is
+      by ops.Return n is = flat_first [] tt is
+      by ops.Br n is = flat_first [] tt is
+      by ops.CondBr n is = flat_first [] tt is

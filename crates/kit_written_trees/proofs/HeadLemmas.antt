@@ -1,11 +1,12 @@
 -- Operations that can be written: none of them is a branch, and what says the same can be written too.
-use Rattle.std.proofs.Common.{◌≡◌, ◌∙◌, ⊎_elim, ℕ, zero, suc, Bool, false, List, [], length, Some, refl, sym, subst}
+use Rattle.std.proofs.Common.{◌≡◌, ◌∙◌, ℕ, Bool, false, List, [], ◌∷◌, length, Some, refl, sym, ap}
+use Rattle.std.proofs.Common.{subst, arith}
 use Rattle.ir_base.specs.declared.types.TypeHandle.{TypeHandle}
 use Rattle.ir_names.specs.Tree.{Trees}
 use Rattle.ir_names.specs.declared.interfaces.OpInterface.TheVariants as op
 use Rattle.ir_print.specs.Shown.{Said, Pairs, ShowsType}
 use Rattle.ir_trees.specs.Names.{Names}
-use Rattle.ir_trees.specs.Trees.{Head, Sort, Tree, end, operation, block, region}
+use Rattle.ir_trees.specs.Trees.{Head}
 use Rattle.kit.specs.Meaning.{Entries, dropped_of, kit}
 use Rattle.kit_ops.specs.Table.{has_interface}
 use Rattle.kit_ops.specs.declared.attributes.KitAttr.{KitAttr}
@@ -14,10 +15,8 @@ use Rattle.kit_ops.specs.declared.kinds.KitOp.TheVariants as ops
 use Rattle.kit_ops.specs.declared.types.KitType.{KitType}
 use Rattle.kit.specs.Says.{says, said_of_operation}
 use Rattle.kit_views.specs.Reading.{kit_contents}
-use Rattle.kit_writable_trees.specs.Writable.{types_in, IsWritableHead, IsWritable}
-use Rattle.opt_trees.specs.Occurrences.{Has, Inside, Occurrence, inner, next_block, next_region, occurrences_in}
+use Rattle.kit_writable_trees.specs.Writable.{types_in, IsWritableHead}
 use Rattle.opt_trees.proofs.Lists.{none_some}
-use Rattle.opt_trees.proofs.NoneDead.{has-append}
 
 -- what an operation of a kind says that has a text
 abbrev pub SaysIt : KitOp → Entries → ℕ → List TypeHandle → ℕ × Trees (Said KitAttr) → Type 0
@@ -33,10 +32,10 @@ no_branch (ops.Arithmetic a) es n tys x e = refl
 no_branch (ops.Comparison c) es n tys x e = refl
 no_branch ops.Emit es n tys x e = refl
 no_branch ops.Return es n tys x e = refl
-no_branch ops.ForwardRef es n tys x e = absurd (none_some x e)
+no_branch ops.ForwardRef es n tys x e = refl
 no_branch ops.Br es n tys x e = absurd (none_some x e)
 no_branch ops.CondBr es n tys x e = absurd (none_some x e)
-no_branch ops.Call es n tys x e = absurd (none_some x e)
+no_branch ops.Call es n tys x e = refl
 
 -- without operands it has the attributes that it had
 pub dropped_same : (k : KitOp) (p : ℕ → Bool) (es : Entries) (n : ℕ) (tys : List TypeHandle)
@@ -60,24 +59,9 @@ module _ {N : Names} (types : List KitType) where
       no_branch h.content.kind h.content.notes.attributes (length h.operands) (types_in h.results) (w.kind, w.said)
       w.says_it
 
-  -- no operation of what can be written is a branch
-  pub no_branches : {s : Sort} (d : ℕ) (x : Tree N kit_contents s) (c : Inside N kit_contents s) →
-      IsWritable types d x → (o : Occurrence N kit_contents) → Has o (occurrences_in x c) →
-      kit.is_branch o.head.content ≡ false
-  no_branches d end c w o h = absurd h
-  no_branches d (operation hd rs rest) c w o h = ⊎_elim
-      (λ e. subst (λ (z : Occurrence N kit_contents). kit.is_branch z.head.content ≡ false) (sym e)
-      (head_no_branch d _ hd w.0))
-      (λ m. ⊎_elim (λ i. no_branches d rs (inner hd c) w.1 o i) (λ i. no_branches d rest c w.2 o i)
-      (has-append o (occurrences_in rs (inner hd c)) (occurrences_in rest c) m))
-      h
-  no_branches d (block l os rest) c w o h = ⊎_elim
-      (λ i. no_branches d os (record { spot = c; label = l }) w.1 o i) (λ i. no_branches d rest (next_block c) w.2 o i)
-      (has-append o (occurrences_in os (record { spot = c; label = l })) (occurrences_in rest (next_block c)) h)
-  no_branches zero (region bs rest) c w o h = absurd w.0
-  no_branches (suc d) (region bs rest) c w o h = ⊎_elim
-      (λ i. no_branches d bs c w.0 o i) (λ i. no_branches (suc d) rest (next_region c) w.2 o i)
-      (has-append o (occurrences_in bs c) (occurrences_in rest (next_region c)) h)
+none_left : {X : Type 0} (xs : List X) → length xs ≡ 0 → xs ≡ []
+none_left [] e = refl
+none_left (x ∷ xs) e = absurd (omega (arith, e))
 
 module _ {N M : Names} (types : List KitType) where
   -- what an operation says that can be written, another says too
@@ -86,7 +70,7 @@ module _ {N M : Names} (types : List KitType) where
     pub attributes : g.content.notes.attributes ≡ h.content.notes.attributes
     pub operands : length g.operands ≡ length h.operands
     pub results : types_in g.results ≡ types_in h.results
-    pub successors : h.successors ≡ [] → g.successors ≡ []
+    pub successors : length g.successors ≡ length h.successors
 
   pub head_like : (d n m : ℕ) (h : Head N kit_contents) (g : Head M kit_contents) → SaysSame h g → m ≡ n →
       IsWritableHead types d n h → IsWritableHead types d m g
@@ -102,5 +86,5 @@ module _ {N M : Names} (types : List KitType) where
     holds = w.holds ∙ sym count;
     flat = w.flat;
     bare = w.bare;
-    no_successors = like.successors w.no_successors;
+    no_successors = none_left g.successors (like.successors ∙ ap (λ bs. length bs) w.no_successors);
   }

@@ -6,8 +6,10 @@ pub mod Scoping
 pub mod Texts
 pub mod HeadLemmas
 pub mod ListLemmas
+pub mod EdgeLemmas
 pub mod DceLemmas
 pub mod RenameLemmas
+pub mod JoinedLemmas
 pub mod SimplifyLemmas
 pub mod ConstantLemmas
 pub mod DepthLemmas

@@ -34,7 +34,7 @@ module _ {N M : Names} (types : List KitType) (m : Maps N M) where
         attributes = refl;
         operands = length-map m.value h.operands;
         results = types_renamed m.value h.results;
-        successors = λ e. ap (map m.block) e;
+        successors = length-map m.block h.successors;
       })
       count w
 

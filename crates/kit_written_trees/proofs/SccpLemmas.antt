@@ -1,5 +1,5 @@
 -- With constants in place of known values a tree that keeps the rules can be written.
-use Rattle.std.proofs.Common.{◌≡◌, ⊎_elim, ℕ, zero, suc, ◌≤◌, List, [], ◌∷◌, ◌++◌, Option, Some, None, slice_get, refl, sym, ap, ◌∙◌, subst}
+use Rattle.std.proofs.Common.{◌≡◌, ⊎_elim, ℕ, zero, suc, ◌≤◌, List, [], ◌∷◌, ◌++◌, length, Option, Some, None, slice_get, option_and_then, inl, inr, refl, sym, ap, ◌∙◌, subst}
 use Rattle.ir_base.specs.declared.types.TypeHandle.{TypeHandle}
 use Rattle.ir_forest.specs.Closed.{AllDistinct}
 use Rattle.ir_print.specs.Pieces.{ValueTree}
@@ -11,10 +11,11 @@ use Rattle.ir_trees.specs.Stands.{ProgramHead}
 use Rattle.ir_trees.specs.Trees.{Defined, Head, Label, Sort, Operations, Blocks, Regions, Tree, end, operation, block, region, Root}
 use Rattle.kit.specs.Meaning.{KitOperation, KitBlock, kit}
 use Rattle.kit_checks.proofs.Down.{step_to}
-use Rattle.kit_checks.specs.Rules.{ValuesAreIntegers}
+use Rattle.kit_checks.specs.Rules.{AttributesAreKnown, ValuesAreIntegers}
 use Rattle.kit_checks.specs.Words.{IsValueType, bodies_of, integer_type}
 use Rattle.kit_checks.specs.declared.rule.Rule.TheVariants as rule
 use Rattle.kit_ops.specs.declared.attributes.IntegerAttr.{IntegerAttr}
+use Rattle.kit_ops.specs.declared.kinds.KitOp.TheVariants as ops
 use Rattle.kit_ops.specs.declared.types.IntegerType.{IntegerType}
 use Rattle.kit_ops.specs.declared.types.KitType.{KitType}
 use Rattle.kit_pass_rules.specs.Laws.{IsGood}
@@ -24,7 +25,9 @@ use Rattle.kit_pass_rules.proofs.Located.{located, located_block}
 use Rattle.kit_pass_rules.proofs.SccpCame.{body_in}
 use Rattle.kit_pass_rules.proofs.SccpLaw.{fits}
 use Rattle.kit_pass_rules.proofs.Walk.{OccurrenceOf, BlockOf, child_of}
-use Rattle.kit.specs.Says.{says, form_at}
+use Rattle.kit.specs.Forms.{form_of}
+use Rattle.kit.specs.Readable.{says_kinds}
+use Rattle.kit.specs.Says.{says, result_types_by}
 use Rattle.kit_views.specs.Reading.{kit_contents}
 use Rattle.kit_written_trees.specs.PassLaws.{leads_by, SccpStaysWritable}
 use Rattle.kit_written_trees.proofs.ConstantLemmas.{IsNumber, key_of, constant_writable}
@@ -32,7 +35,9 @@ use Rattle.kit_written_trees.proofs.DepthLemmas.{IsAbove, first_above, results_a
 use Rattle.kit_written_trees.proofs.HeadLemmas.{head_like}
 use Rattle.kit_written_trees.proofs.RenameLemmas.{types_renamed, root_renamed}
 use Rattle.kit_writable_trees.specs.Writable.{types_in, count_of, label_text, labels_in, AreWritten, IsWritableHead, IsWritableLabel, IsWritable, IsWritableRoot}
-use Rattle.opt_trees.specs.Occurrences.{Has, occurrences_of, block_occurrences_of}
+use Rattle.opt_trees.specs.Occurrences.{Has, Inside, Occurrence, OperationSite, inner, next_block, next_region}
+use Rattle.opt_trees.specs.Occurrences.{at_root, occurrences_in, occurrences_of, block_occurrences_of}
+use Rattle.opt_trees.proofs.NoneDead.{has-left, has-right}
 use Rattle.opt_trees.specs.Sccp.{Old, fresh, used_as, put_one, put_results, put_arguments, old_head, old_label, put, put_root}
 use Rattle.opt_trees.proofs.Lists.{some_same, has-from_map, length-map}
 
@@ -41,6 +46,11 @@ use Rattle.opt_trees.proofs.Lists.{some_same, has-from_map, length-map}
 -- at this depth values may be, or there are none
 abbrev IsAboveFor : {V : Type 0} → ℕ → List (Defined V TypeHandle) → Type 0
 IsAboveFor {V} d vs = (v : Defined V TypeHandle) (us : List (Defined V TypeHandle)) → vs ≡ v ∷ us → IsAbove d
+
+-- no operation of a part is a placeholder
+abbrev NoPlaceholder : {N : Names} {s : Sort} → Tree N kit_contents s → Inside N kit_contents s → Type 0
+NoPlaceholder {N} x c =
+    (o : Occurrence N kit_contents) → Has o (occurrences_in x c) → o.head.content.kind ≡ ops.ForwardRef → ⊥
 
 module _ {N : Names} (types : List KitType) (made : N.value → Option IntegerAttr)
     (numbers : (v : N.value) (a : IntegerAttr) → made v ≡ Some a → IsNumber types a) where
@@ -77,9 +87,13 @@ module _ {N : Names} (types : List KitType) (made : N.value → Option IntegerAt
   all_arguments zero (v ∷ vs) f rest w = let x = f v vs refl in let e : zero ≡ suc x.0 = x.1 in absurd (cc e)
   all_arguments (suc d) (v ∷ vs) f rest w = arguments_put d (v ∷ vs) rest w
 
-  head_above : (d n : ℕ) (h : Head N kit_contents) → IsWritableHead types d n h → IsAboveFor d h.results
-  head_above d n h w v us e = results_above types d v.holds (types_in us) w.shapes (form_at w.kind) w.pieces
-      (subst (λ vs. Pairs (ShowsType says types) (types_in vs) w.shapes) e w.typed) w.read w.flat
+  head_above : (d n : ℕ) (h : Head N kit_contents) → (h.content.kind ≡ ops.ForwardRef → ⊥) →
+      IsWritableHead types d n h → IsAboveFor d h.results
+  head_above d n h other w v us e = results_above types h.content.kind other d v.holds (types_in us) w.shapes w.pieces
+      (subst (λ vs. Pairs (ShowsType says types) (types_in vs) w.shapes) e w.typed)
+      (w.read ∙ ap (λ k. result_types_by (option_and_then form_of k) w.pieces)
+      (says_kinds h.content.kind h.content.notes.attributes (length h.operands) (types_in h.results) w.kind w.said
+      w.says_it)) w.flat
 
   label_above : (d : ℕ) (l : Label N kit_contents) → IsWritableLabel types d l → IsAboveFor d l.arguments
   label_above d l w v us e = first_above types d v.holds (types_in us) w.arguments.shapes
@@ -104,7 +118,7 @@ module _ {N : Names} (types : List KitType) (made : N.value → Option IntegerAt
         attributes = refl;
         operands = length-map (λ v. used_as v (made v)) h.operands;
         results = types_renamed Old h.results;
-        successors = λ e. e;
+        successors = refl;
       })
       count w
 
@@ -116,28 +130,40 @@ module _ {N : Names} (types : List KitType) (made : N.value → Option IntegerAt
     arguments = subst (AreWritten types d) (sym (types_renamed Old l.arguments)) w.arguments;
   }
 
-  put_writable : {s : Sort} (d : ℕ) (x : Tree N kit_contents s) → IsWritable types d x →
-      IsWritable types d (put kit made x)
-  put_writable d end w = tt
-  put_writable d (operation h rs rest) w =
-      let r : IsWritable types d (put kit made rs) = put_writable d rs w.1 in
-      let m : IsWritable types d (put kit made rest) = put_writable d rest w.2 in
-      all_results d h.results (head_above d (count_of rs) h w.0)
+  put_writable : {s : Sort} (d : ℕ) (x : Tree N kit_contents s) (c : Inside N kit_contents s) → NoPlaceholder x c →
+      IsWritable types d x → IsWritable types d (put kit made x)
+  put_writable d end c free w = tt
+  put_writable d (operation h rs rest) c free w =
+      let r : IsWritable types d (put kit made rs) = put_writable d rs (inner h c)
+      (λ o has. free o (inr (has-left o (occurrences_in rs (inner h c)) (occurrences_in rest c) has))) w.1 in
+      let m : IsWritable types d (put kit made rest) = put_writable d rest c
+      (λ o has. free o (inr (has-right o (occurrences_in rs (inner h c)) (occurrences_in rest c) has))) w.2 in
+      all_results d h.results
+      (head_above d (count_of rs) h (free (record { site = c; head = h; regions = rs }) (inl refl)) w.0)
       (operation (old_head {N = N} made h) (put kit made rs) (put kit made rest))
       (head_put d (count_of rs) (count_of (put kit made rs)) h (count_put rs) w.0, r, m)
-  put_writable d (block l os rest) w = (
-    label_put d l w.0,
-    all_arguments d l.arguments (label_above d l w.0) (put kit made os) (put_writable d os w.1),
-    put_writable d rest w.2,
+  put_writable d (block l os rest) c free w =
+      let here : OperationSite N kit_contents = record { spot = c; label = l } in (
+        label_put d l w.0,
+        all_arguments d l.arguments (label_above d l w.0) (put kit made os) (put_writable d os here
+            (λ o has. free o (has-left o (occurrences_in os here) (occurrences_in rest (next_block c)) has)) w.1),
+        put_writable d rest (next_block c)
+            (λ o has. free o (has-right o (occurrences_in os here) (occurrences_in rest (next_block c)) has)) w.2,
+      )
+  put_writable zero (region bs rest) c free w = absurd w.0
+  put_writable (suc d) (region bs rest) c free w = (
+    put_writable d bs c
+        (λ o has. free o (has-left o (occurrences_in bs c) (occurrences_in rest (next_region c)) has)) w.0,
+    subst AllDistinct (sym (labels_put bs)) w.1,
+    put_writable (suc d) rest (next_region c)
+        (λ o has. free o (has-right o (occurrences_in bs c) (occurrences_in rest (next_region c)) has)) w.2,
   )
-  put_writable zero (region bs rest) w = absurd w.0
-  put_writable (suc d) (region bs rest) w =
-      (put_writable d bs w.0, subst AllDistinct (sym (labels_put bs)) w.1, put_writable (suc d) rest w.2)
 
-  pub root_put : (t : Root N kit_contents) → IsWritableRoot types t → IsWritableRoot types (put_root kit made t)
-  root_put t w = record {
+  pub root_put : (t : Root N kit_contents) → NoPlaceholder t.regions (at_root t) → IsWritableRoot types t →
+      IsWritableRoot types (put_root kit made t)
+  root_put t free w = record {
     head = head_put 64 (count_of t.regions) (count_of (put kit made t.regions)) t.head (count_put t.regions) w.head;
-    regions = put_writable 64 t.regions w.regions;
+    regions = put_writable 64 t.regions (at_root t) free w.regions;
   }
 
 -- ---- which constants
@@ -149,6 +175,16 @@ module _ (leads : TypeHandle → Option KitType) (old : Value → Option TypeHan
     pub type : TypeHandle
     pub was : old v ≡ Some type
     pub value : IsValueType (kit_world leads old) type
+
+  -- what keeps the rules has no placeholder
+  no_placeholder : (o : OccurrenceOf KitOperation KitBlock) → Has o (occurrences_of t) →
+      o.head.content.kind ≡ ops.ForwardRef → ⊥
+  no_placeholder o stands e =
+      let l = located t o stands in
+      let c = child_of t l.s l.outer l.up l.r l.b l.k l.blocks l.body l.u l.region_here l.block_here l.here in
+      let known : AttributesAreKnown (kit_world leads old) (step_to l.s l.outer l.blocks l.b l.body l.k l.u) =
+      good.obeys rule.AttributesAreKnown c.place (step_to l.s l.outer l.blocks l.b l.body l.k l.u) c.at_place in
+      known.no_forward_ref (ap (λ (h : ProgramHead KitOperation KitBlock). h.content.kind) l.head ∙ e)
 
   result_type : (v : Value) (o : OccurrenceOf KitOperation KitBlock) → Has o (occurrences_of t) →
       Has v (names_of o.head.results) → TypeOf v
@@ -207,4 +243,5 @@ sccp_law = λ types typed t after writable good named.
     let whole : rename_root named.names (put_root kit x.made t) ≡ after =
     sym (named.is ∙ ap (rename_root named.names) x.is) in
     subst (IsWritableRoot types) whole
-    (root_renamed types named.names (put_root kit x.made t) (root_put types x.made numbers t writable))
+    (root_renamed types named.names (put_root kit x.made t)
+    (root_put types x.made numbers t (λ o has. no_placeholder leads typed t good o has) writable))

@@ -1,14 +1,11 @@
--- What simplifying control flow leaves can be written: nothing is decided or joined where no operation is a branch, and
--- blocks are cut.
-use Rattle.std.proofs.Common.{◌≡◌, ⊎_elim, ℕ, zero, suc, Bool, true, false, List, ◌++◌, map, Option, Some, None, refl, sym, ap, ◌∙◌, subst}
-use Rattle.std.proofs.lemmas.Bool.{and_parts}
-use Rattle.std.specs.Prelude.{if◌then◌else◌, not, ◌&&◌}
+-- What simplifying control flow leaves can be written: nothing is decided where no operation is a branch, blocks are
+-- cut, and chains of blocks are joined.
+use Rattle.std.proofs.Common.{◌≡◌, ⊎_elim, ℕ, zero, suc, Bool, true, false, List, ◌++◌, Option, refl, sym, ap, subst}
+use Rattle.std.specs.Prelude.{if◌then◌else◌}
 use Rattle.ir_forest.specs.Closed.{AllDistinct}
-use Rattle.ir_program.specs.declared.handles.BasicBlock.{BasicBlock}
-use Rattle.ir_program.specs.declared.handles.Ptr.{Ptr}
 use Rattle.ir_trees.specs.Names.{Names}
 use Rattle.ir_trees.specs.Stands.{by_handle}
-use Rattle.ir_trees.specs.Trees.{Head, Sort, Operations, Blocks, Regions, Tree, end, operation, block, region, Root}
+use Rattle.ir_trees.specs.Trees.{Head, Sort, Blocks, Regions, Tree, end, operation, block, region, Root}
 use Rattle.kit.specs.Meaning.{kit}
 use Rattle.kit_ops.specs.declared.attributes.IntegerAttr.{IntegerAttr}
 use Rattle.kit_ops.specs.declared.types.KitType.{KitType}
@@ -16,29 +13,29 @@ use Rattle.kit_pass_rules.specs.Names.{maps_of}
 use Rattle.kit_pass_rules.specs.Worlds.{PassedTree}
 use Rattle.kit_views.specs.Reading.{kit_contents}
 use Rattle.kit_written_trees.specs.PassLaws.{SimplifyStaysWritable}
-use Rattle.kit_written_trees.proofs.HeadLemmas.{head_no_branch, no_branches, head_like}
+use Rattle.kit_written_trees.proofs.EdgeLemmas.{other_decided}
+use Rattle.kit_written_trees.proofs.HeadLemmas.{head_no_branch, head_like}
+use Rattle.kit_written_trees.proofs.JoinedLemmas.{count_joined, chains_writable}
 use Rattle.kit_written_trees.proofs.ListLemmas.{distinct_right, distinct_fewer}
 use Rattle.kit_written_trees.proofs.RenameLemmas.{root_renamed}
-use Rattle.kit_writable_trees.specs.Writable.{count_of, label_text, labels_in, IsWritableHead, IsWritable, IsWritableRoot}
+use Rattle.kit_writable_trees.specs.Writable.{count_of, label_text, labels_in, IsWritableHead, IsWritable}
+use Rattle.kit_writable_trees.specs.Writable.{IsWritableRoot}
 use Rattle.opt_trees.specs.Dce.{TreeSurroundings}
-use Rattle.opt_trees.specs.Occurrences.{Has, at_root}
-use Rattle.opt_trees.specs.Simplify.{StartingRegions, all_of, is_empty, is_end, along_edge, decide_head, decide, decided, keep, Joinable, Joins, ends, operations, regions, taken, first, chain_ends, chain_goes_on, use_head, use_instead, IsJoined, IsSimplify}
+use Rattle.opt_trees.specs.Occurrences.{Has}
+use Rattle.opt_trees.specs.Simplify.{StartingRegions, all_of, decide, decided, keep, use_head, use_instead, IsLocal}
+use Rattle.opt_trees.specs.Simplify.{IsJoined, IsSimplify}
 use Rattle.opt_trees.proofs.Lists.{length-map}
-use Rattle.opt_trees.proofs.NoneDead.{has-append, has-left, has-right, true_false}
+use Rattle.opt_trees.proofs.NoneDead.{has-append, has-left, has-right}
+use Rattle.opt_trees.proofs.Orderly.{phases_local}
 
 -- ---- branches
 
 module _ {N : Names} (types : List KitType) (alone : N.value → Option IntegerAttr) where
-  head_decided : (h : Head N kit_contents) (rs : Tree N kit_contents Regions) → kit.is_branch h.content ≡ false →
-      decide_head kit alone h rs ≡ h
-  head_decided h rs e = ap (λ (b : Bool). if (b && (is_empty h.results && is_end rs)) && not (kit.is_plain h.content)
-      then along_edge kit h (kit.edge h.content (map alone h.operands)) kit.plain else h) e
-
   -- nothing is decided
   pub tree_decided : {s : Sort} (d : ℕ) (x : Tree N kit_contents s) → IsWritable types d x → decide kit alone x ≡ x
   tree_decided d end w = refl
   tree_decided d (operation h rs rest) w = λ i. operation
-      (head_decided h rs (head_no_branch types d (count_of rs) h w.0) i)
+      (other_decided alone h rs (head_no_branch types d (count_of rs) h w.0) i)
       (tree_decided d rs w.1 i) (tree_decided d rest w.2 i)
   tree_decided d (block l os rest) w = λ i. block l (tree_decided d os w.1 i) (tree_decided d rest w.2 i)
   tree_decided zero (region bs rest) w = absurd w.0
@@ -79,7 +76,7 @@ module _ {N : Names} (types : List KitType) (gone : N.block → Bool) where
       step false d = distinct_fewer (label_text l.content.label) (labels_in rest) (labels_in (keep gone rest))
           (λ text x. label_was text rest x) d h
 
-  cut_writable : {s : Sort} (d : ℕ) (x : Tree N kit_contents s) → IsWritable types d x →
+  pub cut_writable : {s : Sort} (d : ℕ) (x : Tree N kit_contents s) → IsWritable types d x →
       IsWritable types d (keep gone x)
   cut_writable d end w = tt
   cut_writable d (operation h rs rest) w =
@@ -103,21 +100,7 @@ module _ {N : Names} (types : List KitType) (gone : N.block → Bool) where
     regions = cut_writable 64 t.regions w.regions;
   }
 
--- ---- chains
-
--- where nothing can be joined all stays
-module _ {N : Names} (p : StartingRegions N) (r : Root N kit_contents) (none : (b c : N.block) → Joinable kit p r b c → ⊥) where
-  tree_joined : (q : Option N.block) (s : Sort) (x y : Tree N kit_contents s) → Joins kit p r q s x y → x ≡ y
-  tree_joined _ _ _ _ (ends s) = refl
-  tree_joined _ _ _ _ (operations h rs qs rest more x y) =
-      λ i. operation h (tree_joined None Regions rs qs x i) (tree_joined None Operations rest more y i)
-  tree_joined _ _ _ _ (regions bs cs rest more x y) =
-      λ i. region (tree_joined None Blocks bs cs x i) (tree_joined None Regions rest more y i)
-  tree_joined _ _ _ _ (taken l ops rest more b j x) = absurd (none b l.name j)
-  tree_joined _ _ _ _ (first l ops all rest more n x y) =
-      λ i. block l (tree_joined (Some l.name) Operations ops all x i) (tree_joined None Blocks rest more y i)
-  tree_joined _ _ _ _ (chain_ends b ops own n x) = tree_joined None Operations ops own x
-  tree_joined _ _ _ _ (chain_goes_on b z ops own others all j h x y e) = absurd (none b z.label.name j)
+-- ---- values
 
 -- other values are used
 module _ {N : Names} (types : List KitType) (f : N.value → N.value) where
@@ -137,7 +120,7 @@ module _ {N : Names} (types : List KitType) (f : N.value → N.value) where
         attributes = refl;
         operands = length-map f h.operands;
         results = refl;
-        successors = λ e. e;
+        successors = refl;
       })
       count w
 
@@ -169,25 +152,25 @@ decided_writable types w t writable =
     let whole : t ≡ decided kit w t = λ i. record { head = t.head; regions = sym same i } in
     subst (IsWritableRoot types) whole writable
 
-joined_writable : (types : List KitType) (p : StartingRegions by_handle) (t after : PassedTree) → IsWritableRoot types t →
-    IsJoined kit p t after → IsWritableRoot types after
-joined_writable types p t after writable joined =
-    -- what can be joined ends in a branch
-    let none : (b c : Ptr BasicBlock) → Joinable kit p t b c → ⊥ = λ b c j.
-    true_false (kit.is_branch j.last.head.content)
-    (and_parts (kit.is_branch j.last.head.content) (is_empty j.last.head.results && is_end j.last.regions) j.bare).0
-    (no_branches types 64 t.regions (at_root t) writable.regions j.last j.stands) in
-    let same : t.regions ≡ joined.regions = tree_joined p t none None Regions t.regions joined.regions joined.joins in
-    let whole : record { head = use_head joined.names t.head; regions = use_instead joined.names t.regions } ≡ after =
-    (λ i. record { head = use_head joined.names t.head; regions = use_instead joined.names (same i) })
-    ∙ sym joined.is in
-    subst (IsWritableRoot types) whole (root_used types joined.names t writable)
+-- chains are joined; that some operations may be branches is no hindrance
+joined_writable : (types : List KitType) (p : StartingRegions by_handle) (t after : PassedTree) → IsLocal t →
+    IsWritableRoot types t → IsJoined kit p t after → IsWritableRoot types after
+joined_writable types p t after local writable joined =
+    let made : PassedTree = record { head = t.head; regions = joined.regions } in
+    let written : IsWritableRoot types made = record {
+      head = subst (λ n. IsWritableHead types 64 n t.head)
+          (sym (count_joined kit p t t.regions joined.regions joined.joins)) writable.head;
+      regions = chains_writable types kit p t local 64 writable.regions joined.regions joined.joins;
+    } in
+    subst (IsWritableRoot types) (sym joined.is) (root_used types joined.names made written)
 
 pub simplify_law : SimplifyStaysWritable
-simplify_law = λ types w t after writable named.
+simplify_law = λ types w t after writable local named.
     let made : PassedTree = named.0 in
     let pass : IsSimplify kit w t made = named.1 in
     let at_cut : IsWritableRoot types pass.cut = subst (IsWritableRoot types) (sym pass.is_cut.is)
     (root_cut types pass.is_cut.gone (decided kit w t) (decided_writable types w t writable)) in
+    let local_cut : IsLocal pass.cut = phases_local kit (all_of t) w t pass.cut pass.is_cut local in
     subst (IsWritableRoot types) (sym named.3)
-    (root_renamed types (maps_of named.2) made (joined_writable types (all_of t) pass.cut made at_cut pass.is_joined))
+    (root_renamed types (maps_of named.2) made
+    (joined_writable types (all_of t) pass.cut made local_cut at_cut pass.is_joined))

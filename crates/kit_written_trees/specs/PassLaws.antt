@@ -11,23 +11,25 @@ use Rattle.kit_pass_rules.specs.Laws.{IsGood, MakesUpToNames, IsSccpUpToNames}
 use Rattle.kit_pass_rules.specs.Worlds.{PassedTree}
 use Rattle.kit_writable_trees.specs.Writable.{IsWritableRoot}
 use Rattle.opt_trees.specs.Dce.{TreeSurroundings, IsDce}
-use Rattle.opt_trees.specs.Simplify.{IsSimplify}
+use Rattle.opt_trees.specs.Occurrences.{OperationsApart}
+use Rattle.opt_trees.specs.Simplify.{IsLocal, IsSimplify}
 
 -- what a handle leads to: the type with its number
 abbrev pub leads_by : List KitType → TypeHandle → Option KitType
 leads_by types ty = slice_get types ty.number
 
--- without what is dead
+-- without what is dead, where operations have names of their own
 abbrev pub DceStaysWritable : Type 0
 DceStaysWritable = (types : List KitType) (w : TreeSurroundings by_handle IntegerAttr) (t after : PassedTree) →
-    IsWritableRoot types t → IsDce kit w t after → IsWritableRoot types after
+    IsWritableRoot types t → OperationsApart t → IsDce kit w t after → IsWritableRoot types after
 
 -- with constants put in for known values, under whatever handles, where the tree keeps the rules
 abbrev pub SccpStaysWritable : Type 0
 SccpStaysWritable = (types : List KitType) (typed : Value → Option TypeHandle) (t after : PassedTree) →
     IsWritableRoot types t → IsGood (leads_by types) typed t → IsSccpUpToNames t after → IsWritableRoot types after
 
--- with simpler control flow, up to handles of operations
+-- with simpler control flow, up to handles of operations, where blocks have names of their own and edges stay in their
+-- region
 abbrev pub SimplifyStaysWritable : Type 0
 SimplifyStaysWritable = (types : List KitType) (w : TreeSurroundings by_handle IntegerAttr) (t after : PassedTree) →
-    IsWritableRoot types t → MakesUpToNames (IsSimplify kit w) t after → IsWritableRoot types after
+    IsWritableRoot types t → IsLocal t → MakesUpToNames (IsSimplify kit w) t after → IsWritableRoot types after

@@ -1,4 +1,5 @@
 use Rattle.std.proofs.Common.{inl, subst}
+use Rattle.ir_program.specs.Lists.{itself}
 use Rattle.ir_program.specs.Program.{Program}
 use Rattle.ir_trees.specs.Stands.{StandsFor}
 use Rattle.kit.specs.Meaning.{KitOperation, KitBlock}
@@ -6,6 +7,9 @@ use Rattle.kit_ruled_views.specs.Ruled.{KitTree}
 use Rattle.kit_optimiser.proofs.Refusals.{memory_of, stops_for_memory}
 use Rattle.kit_optimiser.proofs.WhatPassesLeave.{IsLeft, live, simplified}
 use Rattle.kit_optimiser.proofs.passes.simplify_control_flow.Goals as goal
+
+pub know_edges-requires-clause-inside : goal.know_edges-requires-clause-inside
+know_edges-requires-clause-inside c = itself
 
 pub know_handles_and_types-requires-in-Ok : goal.know_handles_and_types-requires-in-Ok
 know_handles_and_types-requires-in-Ok c =
@@ -41,7 +45,7 @@ returns-in-Ok-clause-passed c =
       contained = c.simplify_stays_apart.ensures.contained new c.in-Ok.ensures.tree c.requires.contained;
     } in
     simplified old new root c.requires known c.simplify_keeps_rules.ensures c.simplify_stays_writable.ensures
-    c.know_definers.ensures
+    c.know_definers.ensures c.know_edges.ensures.local
     (λ t stands. c.simplified_stand_alone.ensures old.program new.program root t
     (λ w says. c.know_surroundings.ensures.constants w says t stands) (c.in-Ok.ensures.tree t stands))
 
