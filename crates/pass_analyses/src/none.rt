@@ -7,51 +7,53 @@ use opt_dialect::OptError;
 use std::alloc::Global;
 use std::marker::PhantomData;
 
-/// There is no kind.
+/// The kind of what a caller has who has no analyses: it says nothing.
 #[derive(Clone, Copy, Debug, PartialEq, Eq, Hash)]
-pub enum NoKind {}
+pub enum NoKind {
+    Nothing,
+}
 
-/// The analyses of a caller who has none.
+/// The analyses of a caller who has none: there is one, and it says nothing of an operation.
 #[derive(Drop)]
 pub struct NoAnalysis<D> {
-    kind: NoKind,
     of: PhantomData<D>,
 }
 
 impl<D: Verified> Analysis for NoAnalysis<D> {
     ghost use Rattle.std.specs.Prelude.{[]};
     ghost use Rattle.std.proofs.Common.{rules};
+    ghost use Rattle.pass_analyses.specs.declared.none.NoKind.TheVariants.{Nothing};
 
     type Dialect = D;
 
     type Kind = NoKind;
 
-    ghost reading = { record { kind_of = λ a. a.kind; rank_of = λ _. 0; needed = λ _. []; gives = λ _ _ _ _. ⊥ } };
+    ghost reading = { record { kind_of = λ _. Nothing; rank_of = λ _. 0; needed = λ _. []; gives = λ _ _ _ _. Unit {0} } };
 
     fn kind(&self) -> NoKind {
-        self.kind
+        NoKind::Nothing
     }
 
-    fn rank(kind: NoKind) -> u32 {
-        match kind {}
+    fn rank(_kind: NoKind) -> u32 {
+        0
     }
 
-    fn name(kind: NoKind) -> &'static str {
-        match kind {}
+    fn name(_kind: NoKind) -> &'static str {
+        "nothing"
     }
 
-    fn needs(kind: NoKind) -> &'static [NoKind] {
-        match kind {}
+    fn needs(_kind: NoKind) -> &'static [NoKind] {
+        &[]
     }
 
     fn compute(
         _alloc: Global,
-        kind: NoKind,
+        _kind: NoKind,
         _op: Ptr<Operation>,
         _ctx: &VerifiedContext<D>,
         _cache: &AnalysisCache<NoKind, NoAnalysis<D>>,
     ) -> Result<NoAnalysis<D>, OptError> {
-        match kind {}
+        Ok(NoAnalysis { of: PhantomData })
     }
 
     ghost ranked = { λ k j c. Prim.search rules };
