@@ -81,6 +81,7 @@ end_fault values text act.Label first before here os a k h = let e : act.EndBloc
 end_fault values text (act.BeginType kind) first before here os a k h = let e : act.EndType ≡ a = cc in rw (← e)
 end_fault values text (act.BeginAttribute kind) first before here os a k h = let e : act.EndAttribute ≡ a = cc in rw (← e)
 end_fault values text act.BeginOperands first before here os a k h = let e : act.EndOperands ≡ a = cc in rw (← e)
+end_fault values text act.BeginSuccessor first before here os a k h = let e : act.EndSuccessor ≡ a = cc in rw (← e)
 end_fault values text act.BeginList first before here os a k h = let e : act.EndList ≡ a = cc in rw (← e)
 end_fault values text act.BeginItem first before here os a k h = let e : act.EndItem ≡ a = cc in rw (← e)
 end_fault values text _ first before here os a k h = cc

@@ -2,11 +2,11 @@
 use Rattle.std.proofs.Common.{◌≡◌, ℕ, ◌+◌, ◌-◌, true, false, List, [], ◌∷◌, Option, Some, None, refl, sym, subst, ap, ◌∙◌, ◌⊎◌, inl, inr}
 use Rattle.ir_names.specs.Tree.{Trees}
 use Rattle.ir_grammar.specs.declared.grammar.Action.{Action}
-use Rattle.ir_grammar.specs.declared.grammar.Action.TheVariants.{Result, Operation, EndOperation, BeginRegion, EndRegion, Label, Argument, Header, EndBlock, BeginType, EndType, BeginAttribute, EndAttribute, Name, Number, Width, BeginOperands, Operand, EndOperands, BeginList, BeginItem, EndItem, EndList}
+use Rattle.ir_grammar.specs.declared.grammar.Action.TheVariants.{Result, Operation, EndOperation, BeginRegion, EndRegion, Label, Argument, Header, EndBlock, BeginType, EndType, BeginAttribute, EndAttribute, Name, Number, Width, BeginOperands, Operand, EndOperands, BeginSuccessor, EndSuccessor, BeginList, BeginItem, EndItem, EndList}
 use Rattle.ir_grammar.specs.declared.grammar.Event.{Event}
 use Rattle.ir_grammar.specs.declared.grammar.Event.TheVariants.{Took, Did}
 use Rattle.ir_forest.specs.Forest.{end_of, is_end, Deed, deeds_from, ActionSpan}
-use Rattle.ir_grammar.specs.Nesting.{Position, at_root, behind_root_results, at_end, in_operation, in_operands, in_region, in_header, in_argument, in_block, behind_results, in_type, in_attribute, in_list, in_item, Move, goes_to, goes_in, goes_out, nowhere, move, piece_move, Nests, NestsBy}
+use Rattle.ir_grammar.specs.Nesting.{Position, at_root, behind_root_results, at_end, in_operation, in_operands, in_successor, in_region, in_header, in_argument, in_block, behind_results, in_type, in_attribute, in_list, in_item, Move, goes_to, goes_in, goes_out, nowhere, move, piece_move, Nests, NestsBy}
 use Rattle.ir_forest.specs.Building.{Open, Built, behind, ended_tree, with_end, with_begin, with_leaf, after, built_from}
 use Rattle.ir_forest.specs.Progress.{run}
 
@@ -36,6 +36,8 @@ sort_of Width = alone
 sort_of BeginOperands = opening
 sort_of Operand = alone
 sort_of EndOperands = closing
+sort_of BeginSuccessor = opening
+sort_of EndSuccessor = closing
 sort_of BeginList = opening
 sort_of BeginItem = opening
 sort_of EndItem = closing
@@ -70,6 +72,7 @@ ends_by EndBlock = (refl, refl)
 ends_by EndType = (refl, refl)
 ends_by EndAttribute = (refl, refl)
 ends_by EndOperands = (refl, refl)
+ends_by EndSuccessor = (refl, refl)
 ends_by EndItem = (refl, refl)
 ends_by EndList = (refl, refl)
 ends_by _ = (_, refl)
@@ -82,6 +85,7 @@ end_sort Label a h = let e : EndBlock ≡ a = cc in rw (← e)
 end_sort (BeginType kind) a h = let e : EndType ≡ a = cc in rw (← e)
 end_sort (BeginAttribute kind) a h = let e : EndAttribute ≡ a = cc in rw (← e)
 end_sort BeginOperands a h = let e : EndOperands ≡ a = cc in rw (← e)
+end_sort BeginSuccessor a h = let e : EndSuccessor ≡ a = cc in rw (← e)
 end_sort BeginList a h = let e : EndList ≡ a = cc in rw (← e)
 end_sort BeginItem a h = let e : EndItem ≡ a = cc in rw (← e)
 end_sort _ a h = cc
@@ -95,6 +99,7 @@ end_at behind_root_results = None
 end_at at_end = None
 end_at in_operation = Some EndOperation
 end_at in_operands = Some EndOperands
+end_at in_successor = Some EndSuccessor
 end_at in_region = Some EndRegion
 end_at in_header = Some EndBlock
 end_at in_argument = Some EndBlock
@@ -131,12 +136,18 @@ operation_says : (a : Action) → Says in_operation a (move in_operation a)
 operation_says EndOperation = (refl, refl)
 operation_says BeginRegion = (refl, refl, refl, tt)
 operation_says BeginOperands = (refl, refl, refl, tt)
+operation_says BeginSuccessor = (refl, refl, refl, tt)
 operation_says a = piece_says in_operation a
 
 operands_says : (a : Action) → Says in_operands a (move in_operands a)
 operands_says EndOperands = (refl, refl)
 operands_says Operand = (refl, refl)
 operands_says _ = tt
+
+successor_says : (a : Action) → Says in_successor a (move in_successor a)
+successor_says EndSuccessor = (refl, refl)
+successor_says Operand = (refl, refl)
+successor_says _ = tt
 
 region_says : (a : Action) → Says in_region a (move in_region a)
 region_says EndRegion = (refl, refl)
@@ -196,6 +207,7 @@ says behind_root_results a = root_results_says a
 says at_end a = tt
 says in_operation a = operation_says a
 says in_operands a = operands_says a
+says in_successor a = successor_says a
 says in_region a = region_says a
 says in_header a = header_says a
 says in_argument a = argument_says a

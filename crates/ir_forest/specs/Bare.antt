@@ -1,7 +1,7 @@
--- Which trees have nothing below operands, regions, names and numbers.
+-- Which trees have nothing below operands, edges, regions, names and numbers.
 use Rattle.std.specs.Prelude.{◌≡◌, ℕ, List, [], ◌∷◌}
 use Rattle.ir_names.specs.Tree.{node, no_tree, a_tree}
-use Rattle.ir_print.specs.Pieces.{type_of_kind, attribute_of_kind, list, item, operands, region, name, number, width, ValueTree, Pieces, Values, EntityHead, operation, a_region, block, Entity, entity, Entities, no_entity, an_entity}
+use Rattle.ir_print.specs.Pieces.{type_of_kind, attribute_of_kind, list, item, operands, successor, region, name, number, width, ValueTree, Pieces, Values, EntityHead, operation, a_region, block, Entity, entity, Entities, no_entity, an_entity}
 
 abbrev mutual
   -- nothing stands below what has no pieces of its own
@@ -11,6 +11,7 @@ abbrev mutual
   IsBare (node list ts) = AreBare ts
   IsBare (node item ts) = AreBare ts
   IsBare (node (operands n) ts) = ts ≡ no_tree
+  IsBare (node (successor n) ts) = ts ≡ no_tree
   IsBare (node region ts) = ts ≡ no_tree
   IsBare (node (name cs) ts) = ts ≡ no_tree
   IsBare (node (number negative magnitude) ts) = ts ≡ no_tree
@@ -28,9 +29,9 @@ AreBareArguments (x ∷ xs) = IsBare x.1 × AreBareArguments xs
 
 -- so it is of what a head says
 abbrev pub IsBareHead : {N : Type 0} → EntityHead N → Type 0
-IsBareHead (operation kind results used pieces) = AreBare pieces
+IsBareHead (operation kind results used successors pieces) = AreBare pieces
 IsBareHead a_region = Unit {0}
-IsBareHead (block label arguments) = AreBareArguments arguments
+IsBareHead (block named label arguments) = AreBareArguments arguments
 
 abbrev mutual
   -- so it is of all heads in an entity

@@ -4,7 +4,7 @@ use Rattle.std.specs.List.{range_with_len}
 use Rattle.ir_names.specs.Tree.{node, no_tree, a_tree}
 use Rattle.ir_print.specs.Formats.{Formats, Kind}
 use Rattle.ir_print.specs.Pieces.{region, ValueTree, Pieces, Values, EntityHead, operation, a_region, block, Entity, entity, Entities, no_entity, an_entity}
-use Rattle.ir_print.specs.Shown.{operands_said}
+use Rattle.ir_print.specs.Shown.{operands_said, successors_said}
 use Rattle.ir_print.specs.Shapes.{parts_in, FitAll, FitArguments}
 use Rattle.ir_print.specs.Layout.{IsShallow}
 use Rattle.ir_forest.specs.Bare.{IsBareTree}
@@ -26,18 +26,18 @@ names_of xs = map (λ x. x.0) xs
 
 -- the values that a head defines
 abbrev pub head_defines : {N : Type 0} → EntityHead N → List N
-head_defines (operation kind results used pieces) = names_of results
+head_defines (operation kind results used successors pieces) = names_of results
 head_defines a_region = []
-head_defines (block label arguments) = names_of arguments
+head_defines (block named label arguments) = names_of arguments
 
 -- the values that it mentions
 abbrev pub head_mentions : {N : Type 0} → EntityHead N → List N
-head_mentions (operation kind results used pieces) = used
+head_mentions (operation kind results used successors pieces) = used
 head_mentions _ = []
 
 -- whether it is an isolated operation
 abbrev pub is_isolated_head : {N : Type 0} → (ℕ → Bool) → EntityHead N → Bool
-is_isolated_head isolated (operation kind results used pieces) = isolated kind
+is_isolated_head isolated (operation kind results used successors pieces) = isolated kind
 is_isolated_head isolated _ = false
 
 -- the values of the same scope as the head that are in it: none are in an isolated operation
@@ -89,11 +89,51 @@ abbrev mutual
 abbrev pub IsScopedRoot : {N : Type 0} → (ℕ → Bool) → Entity N → Type 0
 IsScopedRoot isolated t = AreIn (mentioned_by isolated t) (defined_by isolated t) × IsScoped isolated false t
 
+-- ---- edges
+
+-- what names a block
+abbrev pub named_in : {N : Type 0} → EntityHead N → List N
+named_in (block named label arguments) = named ∷ []
+named_in _ = []
+
+-- what names the blocks among these entities, not those in them
+abbrev pub blocks_among : {N : Type 0} → Entities N → List N
+blocks_among no_entity = []
+blocks_among (an_entity (entity h us) ts) = named_in h ++ blocks_among ts
+
+abbrev mutual
+  -- what names each block in an entity, in the order of the text
+  pub blocks_of : {N : Type 0} → Entity N → List N
+  blocks_of (entity h ts) = named_in h ++ all_blocks_of ts
+
+  pub all_blocks_of : {N : Type 0} → Entities N → List N
+  all_blocks_of no_entity = []
+  all_blocks_of (an_entity t ts) = blocks_of t ++ all_blocks_of ts
+
+-- the blocks that a head may go on to
+abbrev pub head_goes_on : {N : Type 0} → EntityHead N → List N
+head_goes_on (operation kind results used successors pieces) = successors
+head_goes_on _ = []
+
+-- the blocks to which edges in an entity may lead: those of the region that it is, or else these
+abbrev pub blocks_within : {N : Type 0} → EntityHead N → Entities N → List N → List N
+blocks_within a_region ts bs = blocks_among ts
+blocks_within _ ts bs = bs
+
+abbrev mutual
+  -- Each edge in an entity leads to a block of the nearest region around it; around the entity that region has these blocks.
+  pub HasEdges : {N : Type 0} → List N → Entity N → Type 0
+  HasEdges bs (entity h ts) = AreIn (head_goes_on h) bs × HaveEdges (blocks_within h ts bs) ts
+
+  pub HaveEdges : {N : Type 0} → List N → Entities N → Type 0
+  HaveEdges bs no_entity = Unit {0}
+  HaveEdges bs (an_entity t ts) = HasEdges bs t × HaveEdges bs ts
+
 -- ---- labels
 
 -- the labels of blocks
 abbrev pub label_in : {N : Type 0} → EntityHead N → List (List ℕ)
-label_in (block label arguments) = label ∷ []
+label_in (block named label arguments) = label ∷ []
 label_in _ = []
 
 abbrev pub labels_of : {N : Type 0} → Entities N → List (List ℕ)
@@ -111,7 +151,7 @@ abbrev mutual
 
 -- the head without its label
 abbrev pub unlabelled_head : {N : Type 0} → EntityHead N → EntityHead N
-unlabelled_head (block label arguments) = block [] arguments
+unlabelled_head (block named label arguments) = block named [] arguments
 unlabelled_head h = h
 
 abbrev mutual
@@ -136,10 +176,12 @@ abbrev pub number_in : {N : Type 0} → Entities N → ℕ
 number_in no_entity = 0
 number_in (an_entity t ts) = suc (number_in ts)
 
--- An operation has results of the types that its pieces give, and as many regions as they say; regions hold blocks, and blocks operations.
+-- An operation has results of the types that its pieces give, and as many regions and edges as they say; regions hold blocks, and blocks
+-- operations.
 abbrev mutual
   pub IsOperation : {N : Type 0} → Values → Entity N → Type 0
-  IsOperation v (entity (operation kind results used pieces) ts) = (map (λ x. x.1) results ≡ v.result_types kind pieces) × (regions_said pieces ≡ number_in ts) × AreRegions v ts
+  IsOperation v (entity (operation kind results used successors pieces) ts) = (map (λ x. x.1) results ≡ v.result_types kind pieces) × (regions_said pieces ≡ number_in ts)
+      × (successors_said pieces ≡ length successors) × AreRegions v ts
   IsOperation v (entity _ ts) = ⊥
 
   pub AreRegions : {N : Type 0} → Values → Entities N → Type 0
@@ -155,7 +197,7 @@ abbrev mutual
   AreBlocks v (an_entity t ts) = IsBlock v t × AreBlocks v ts
 
   pub IsBlock : {N : Type 0} → Values → Entity N → Type 0
-  IsBlock v (entity (block label arguments) ts) = AreOperations v ts
+  IsBlock v (entity (block named label arguments) ts) = AreOperations v ts
   IsBlock v (entity _ ts) = ⊥
 
   pub AreOperations : {N : Type 0} → Values → Entities N → Type 0
@@ -164,10 +206,10 @@ abbrev mutual
 
 -- What a head says has the shape of its format, and is read.
 abbrev pub FitsHead : {N : Type 0} → Formats → Values → EntityHead N → Type 0
-FitsHead f v (operation kind results used pieces) = (k : Kind) × (slice_get f.operations kind ≡ Some k) × FitAll f v (parts_in k.format) pieces
+FitsHead f v (operation kind results used successors pieces) = (k : Kind) × (slice_get f.operations kind ≡ Some k) × FitAll f v (parts_in k.format) pieces
     × (v.refused_operation kind pieces ≡ None) × (operands_said pieces ≡ length used)
 FitsHead f v a_region = Unit {0}
-FitsHead f v (block label arguments) = FitArguments f v arguments
+FitsHead f v (block named label arguments) = FitArguments f v arguments
 
 abbrev mutual
   -- the same of all heads in an entity
@@ -183,13 +225,15 @@ pub record IsClosedTree {N : Type 0} (l : Language) (t : Entity N) : Type 0 wher
   pub operation : IsOperation l.values t
   pub fits : FitsTree l.formats l.values t
   pub scoped : IsScopedRoot l.isolated t
+  pub edges : HasEdges [] t
   pub shallow : IsShallow 64 t
   pub labelled : IsLabelled t
   pub bare : IsBareTree t
 
--- its definitions are the numbers from 0 on, in the order of the text
-abbrev pub IsNumbered : Entity ℕ → Type 0
-IsNumbered t = definitions_of t ≡ range_with_len 0 (length (definitions_of t))
+-- Its definitions are the numbers from 0 on, in the order of the text, and so are its blocks.
+pub record IsNumbered (t : Entity ℕ) : Type 0 where
+  pub values : definitions_of t ≡ range_with_len 0 (length (definitions_of t))
+  pub blocks : blocks_of t ≡ range_with_len 0 (length (blocks_of t))
 
 -- the two are the same but for their labels
 abbrev pub IsSameModule : Entity ℕ → Entity ℕ → Type 0

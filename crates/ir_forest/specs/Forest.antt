@@ -2,7 +2,7 @@
 use Rattle.std.specs.Prelude.{◌≡◌, ℕ, ◌+◌, ◌-◌, List, [], ◌∷◌, ◌++◌, Option, Some, None, Bool, true, false}
 use Rattle.ir_names.specs.Tree.{LabelledTree, Trees, node, no_tree, a_tree}
 use Rattle.ir_grammar.specs.declared.grammar.Action.{Action}
-use Rattle.ir_grammar.specs.declared.grammar.Action.TheVariants.{Operation, EndOperation, BeginRegion, EndRegion, Label, EndBlock, BeginType, EndType, BeginAttribute, EndAttribute, BeginOperands, EndOperands, BeginList, BeginItem, EndItem, EndList}
+use Rattle.ir_grammar.specs.declared.grammar.Action.TheVariants.{Operation, EndOperation, BeginRegion, EndRegion, Label, EndBlock, BeginType, EndType, BeginAttribute, EndAttribute, BeginOperands, EndOperands, BeginSuccessor, EndSuccessor, BeginList, BeginItem, EndItem, EndList}
 use Rattle.ir_grammar.specs.declared.grammar.Event.{Event}
 use Rattle.ir_grammar.specs.declared.grammar.Event.TheVariants.{Took, Did}
 
@@ -14,6 +14,7 @@ end_of Label = Some EndBlock
 end_of (BeginType kind) = Some EndType
 end_of (BeginAttribute kind) = Some EndAttribute
 end_of BeginOperands = Some EndOperands
+end_of BeginSuccessor = Some EndSuccessor
 end_of BeginList = Some EndList
 end_of BeginItem = Some EndItem
 end_of _ = None
@@ -26,6 +27,7 @@ is_end EndBlock = true
 is_end EndType = true
 is_end EndAttribute = true
 is_end EndOperands = true
+is_end EndSuccessor = true
 is_end EndItem = true
 is_end EndList = true
 is_end _ = false

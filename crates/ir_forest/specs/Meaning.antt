@@ -2,7 +2,7 @@
 use Rattle.std.specs.Prelude.{ℕ, ◌+◌, ◌*◌, ◌-◌, ◌==◌, List, [], ◌∷◌, ◌++◌, map, true, false, if◌then◌else◌}
 use Rattle.ir_names.specs.declared.kinds.Signedness.TheVariants.{Signless, Signed, Unsigned}
 use Rattle.ir_names.specs.Tree.{Trees, node, no_tree, a_tree, count}
-use Rattle.ir_print.specs.Pieces.{Piece, type_of_kind, attribute_of_kind, list, item, operands, region, name, number, width, ValueTree, Pieces, Values, EntityHead, operation, a_region, block, Entity, entity, Entities, no_entity, an_entity}
+use Rattle.ir_print.specs.Pieces.{Piece, type_of_kind, attribute_of_kind, list, item, operands, successor, region, name, number, width, ValueTree, Pieces, Values, EntityHead, operation, a_region, block, Entity, entity, Entities, no_entity, an_entity}
 use Rattle.ir_grammar.specs.declared.grammar.Action.{Action}
 use Rattle.ir_grammar.specs.declared.grammar.Action.TheVariants as act
 use Rattle.ir_forest.specs.Forest.{ActionSpan}
@@ -44,6 +44,7 @@ with_piece values (act.BeginAttribute kind) text many ts rest = a_tree (node (at
 with_piece values act.BeginList text many ts rest = a_tree (node list ts) rest
 with_piece values act.BeginItem text many ts rest = a_tree (node item ts) rest
 with_piece values act.BeginOperands text many ts rest = a_tree (node (operands many) no_tree) rest
+with_piece values act.BeginSuccessor text many ts rest = a_tree (node (successor many) no_tree) rest
 with_piece values act.BeginRegion text many ts rest = a_tree (node region no_tree) rest
 with_piece values act.Name text many ts rest = a_tree (node (name text) no_tree) rest
 with_piece values act.Number text many ts rest = a_tree (node (number_in text) no_tree) rest
@@ -56,7 +57,7 @@ pieces_in values text no_tree = no_tree
 pieces_in values text (a_tree (node s ts) rest) =
     with_piece values s.action (text s.first) (count ts) (pieces_in values text ts) (pieces_in values text rest)
 
--- ---- operations, regions and blocks, in which tokens name values
+-- ---- operations, regions and blocks, in which tokens name values and blocks
 
 -- one of three, by whether the action names a result, begins an operation of a kind, or does neither
 abbrev pub by_operation : {X : Type 0} → Action → X → (ℕ → X) → X → X
@@ -73,9 +74,15 @@ abbrev pub by_label : {X : Type 0} → Action → X → X → X
 by_label act.Label x y = x
 by_label _ x y = y
 
+-- so it is of operands and of an edge, which hands on some
 abbrev pub by_operands : {X : Type 0} → Action → X → X → X
 by_operands act.BeginOperands x y = x
+by_operands act.BeginSuccessor x y = x
 by_operands _ x y = y
+
+abbrev pub by_successor : {X : Type 0} → Action → X → X → X
+by_successor act.BeginSuccessor x y = x
+by_successor _ x y = y
 
 -- one of four, by whether the action names an argument, begins a type of a kind, ends a header, or does none of these
 abbrev pub by_argument : {X : Type 0} → Action → X → (ℕ → X) → X → X → X
@@ -93,6 +100,11 @@ tokens_in (a_tree (node s ts) rest) = s.first ∷ tokens_in rest
 abbrev pub operands_in : Trees ActionSpan → List ℕ
 operands_in no_tree = []
 operands_in (a_tree (node s ts) rest) = by_operands s.action (tokens_in ts) [] ++ operands_in rest
+
+-- the tokens that name the blocks to which an operation may go on
+abbrev pub successors_in : Trees ActionSpan → List ℕ
+successors_in no_tree = []
+successors_in (a_tree (node s ts) rest) = by_successor s.action (s.first ∷ []) [] ++ successors_in rest
 
 -- the arguments in the header of a block, the name of the first being this one
 abbrev pub arguments_in : Values → (ℕ → List ℕ) → ℕ → Trees ActionSpan → List (ℕ × ValueTree)
@@ -112,7 +124,7 @@ typed (k ∷ ks) (t ∷ ts) = (k, t) ∷ typed ks ts
 -- what an operation of a kind is whose results have these names
 abbrev pub head_of : Values → (ℕ → List ℕ) → List ℕ → Trees ActionSpan → ℕ → EntityHead ℕ
 head_of values text names ts kind = let ps = pieces_in values text ts in
-    operation kind (typed names (values.result_types kind ps)) (operands_in ts) ps
+    operation kind (typed names (values.result_types kind ps)) (operands_in ts) (successors_in ts) ps
 
 abbrev mutual
   -- the operations among steps, with the names of results that stand before them; these names stand before the first
@@ -134,21 +146,23 @@ abbrev mutual
   pub blocks_in : Values → (ℕ → List ℕ) → Trees ActionSpan → Entities ℕ
   blocks_in values text no_tree = no_entity
   blocks_in values text (a_tree (node s ts) rest) = by_label s.action
-      (an_entity (entity (block (text s.first) (arguments_in values text 0 ts)) (operations_in values text [] ts)) (blocks_in values text rest))
+      (an_entity (entity (block s.first (text s.first) (arguments_in values text 0 ts)) (operations_in values text [] ts)) (blocks_in values text rest))
       (blocks_in values text rest)
 
 -- ---- other names
 
-abbrev pub renamed_head : {M N : Type 0} → (M → N) → EntityHead M → EntityHead N
-renamed_head f (operation kind results used pieces) = operation kind (map (λ r. (f r.0, r.1)) results) (map f used) pieces
-renamed_head f a_region = a_region
-renamed_head f (block label arguments) = block label (map (λ r. (f r.0, r.1)) arguments)
+-- the head, where the first function names values, and the second names blocks
+abbrev pub renamed_head : {M N : Type 0} → (M → N) → (M → N) → EntityHead M → EntityHead N
+renamed_head f g (operation kind results used successors pieces) =
+    operation kind (map (λ r. (f r.0, r.1)) results) (map f used) (map g successors) pieces
+renamed_head f g a_region = a_region
+renamed_head f g (block named label arguments) = block (g named) label (map (λ r. (f r.0, r.1)) arguments)
 
 abbrev mutual
-  -- the same tree, where values are named by other names
-  pub renamed : {M N : Type 0} → (M → N) → Entity M → Entity N
-  renamed f (entity h es) = entity (renamed_head f h) (all_renamed f es)
+  -- the same tree, where values are named by other names, and blocks by others
+  pub renamed : {M N : Type 0} → (M → N) → (M → N) → Entity M → Entity N
+  renamed f g (entity h es) = entity (renamed_head f g h) (all_renamed f g es)
 
-  pub all_renamed : {M N : Type 0} → (M → N) → Entities M → Entities N
-  all_renamed f no_entity = no_entity
-  all_renamed f (an_entity e es) = an_entity (renamed f e) (all_renamed f es)
+  pub all_renamed : {M N : Type 0} → (M → N) → (M → N) → Entities M → Entities N
+  all_renamed f g no_entity = no_entity
+  all_renamed f g (an_entity e es) = an_entity (renamed f g e) (all_renamed f g es)

@@ -5,7 +5,7 @@ use Rattle.std.specs.Bool.{MatchBool}
 use Rattle.std.proofs.lemmas.Bool.{eqb-true}
 use Rattle.std.proofs.lemmas.List.{append_assoc}
 use Rattle.ir_grammar.specs.declared.grammar.Action.{Action}
-use Rattle.ir_grammar.specs.declared.grammar.Action.TheVariants.{Result, Argument, Label, Operand}
+use Rattle.ir_grammar.specs.declared.grammar.Action.TheVariants.{Result, Argument, Label, Operand, BeginSuccessor}
 use Rattle.ir_grammar.specs.declared.grammar.Symbol.{Symbol}
 use Rattle.ir_grammar.specs.declared.grammar.Symbol.TheVariants.{Sign, Part, Act}
 use Rattle.ir_grammar.specs.declared.grammar.Event.{Event}
@@ -17,7 +17,7 @@ use Rattle.ir_grammar.specs.declared.grammar.Stop.{Stop}
 use Rattle.ir_grammar.specs.declared.grammar.Stop.TheVariants.{Text, Stuck, Deep}
 use Rattle.ir_grammar.specs.Reading.{through, Reads}
 use Rattle.ir_formats.specs.Rules.{plain_rule, plain_rules}
-use Rattle.ir_grammar.specs.Nesting.{names_value_or_block, OwnTokens, Position, at_root, behind_root_results, at_end, in_operation, in_operands, in_region, in_header, in_argument, in_block, behind_results, in_type, in_attribute, in_list, in_item, Move, goes_to, goes_in, goes_out, nowhere, move, Nests, NestsBy, has_own_token, FollowTokens}
+use Rattle.ir_grammar.specs.Nesting.{names_value_or_block, OwnTokens, Position, at_root, behind_root_results, at_end, in_operation, in_operands, in_successor, in_region, in_header, in_argument, in_block, behind_results, in_type, in_attribute, in_list, in_item, Move, goes_to, goes_in, goes_out, nowhere, move, Nests, NestsBy, has_own_token, FollowTokens}
 use Rattle.ir_formats.specs.Ordered.{Standing, alone, moved_out, moved_by, moved, passed, passed_all, number_of_position, is_same_position, PartPositions, led_from, placed, led, walked, walked_all, is_alone_at, is_alone, lead_so, follow_signs, is_rule_ordered, are_rules_ordered, is_ordered, LeadsToPosition, IsInOrder, OrdersTexts}
 use Rattle.ir_formats.proofs.Booleans.{both_hold}
 
@@ -31,7 +31,7 @@ inner e = cc
 
 -- the position with a number
 position_at : ℕ → Position
-position_at n = slice_index_or (at_root ∷ behind_root_results ∷ at_end ∷ in_operation ∷ in_operands ∷ in_region ∷ in_header ∷ in_argument ∷ in_block ∷ behind_results ∷ in_type ∷ in_attribute ∷ in_list ∷ in_item ∷ []) n at_end
+position_at n = slice_index_or (at_root ∷ behind_root_results ∷ at_end ∷ in_operation ∷ in_operands ∷ in_region ∷ in_header ∷ in_argument ∷ in_block ∷ behind_results ∷ in_type ∷ in_attribute ∷ in_list ∷ in_item ∷ in_successor ∷ []) n at_end
 
 position_back : (p : Position) → position_at (number_of_position p) ≡ p
 unfolding position_at
@@ -49,6 +49,7 @@ position_back in_type = refl
 position_back in_attribute = refl
 position_back in_list = refl
 position_back in_item = refl
+position_back in_successor = refl
 
 pub same_position : (p q : Position) → is_same_position p q ≡ true → p ≡ q
 same_position p q e = sym (position_back p) ∙ (ap position_at (eqb-true (number_of_position p) (number_of_position q) e) ∙ position_back q)
@@ -282,6 +283,7 @@ names_own Result e = refl
 names_own Argument e = refl
 names_own Label e = refl
 names_own Operand e = refl
+names_own BeginSuccessor e = refl
 names_own _ e = cc
 
 own_later : (es : List Event) (fresh more : Bool) → (fresh ≡ true → more ≡ true) → FollowTokens fresh es → OwnTokens more es

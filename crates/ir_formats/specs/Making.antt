@@ -1,7 +1,7 @@
 -- What the making of rules does to those that are there.
 use Rattle.std.specs.Prelude.{ℕ, Bool, true, false, List, ◌≡◌, ◌++◌, map}
 use Rattle.std.specs.Borrow.{Bor}
-use Rattle.ir_print.specs.Formats.{Formats, Kind, Step, word, operands, operand, an_attribute, a_type, a_region, symbol_name, a_name, a_number, a_width, list_of, steps_of}
+use Rattle.ir_print.specs.Formats.{Formats, Kind, Step, word, operands, operand, successor, an_attribute, a_type, a_region, symbol_name, a_name, a_number, a_width, list_of, steps_of}
 use Rattle.ir_grammar.specs.declared.grammar.Symbol.{Symbol}
 use Rattle.ir_formats.specs.declared.rules.KindText.{KindText}
 use Rattle.ir_formats.specs.declared.rules.KindTexts.{KindTexts}
@@ -29,6 +29,7 @@ abbrev pub has_rules : Step → Bool
 has_rules (word printed text) = false
 has_rules operands = true
 has_rules operand = false
+has_rules successor = true
 has_rules an_attribute = false
 has_rules a_type = false
 has_rules a_region = false

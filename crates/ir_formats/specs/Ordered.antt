@@ -8,7 +8,7 @@ use Rattle.ir_grammar.specs.declared.grammar.Event.TheVariants.{Took, Did}
 use Rattle.ir_grammar.specs.declared.grammar.Grammar.{Grammar}
 use Rattle.ir_grammar.specs.Grammar.{IsTextOf}
 use Rattle.ir_formats.specs.Rules.{PlainRule}
-use Rattle.ir_grammar.specs.Nesting.{Position, at_root, behind_root_results, at_end, in_operation, in_operands, in_region, in_header, in_argument, in_block, behind_results, in_type, in_attribute, in_list, in_item, Move, goes_to, goes_in, goes_out, nowhere, move, Nests, has_own_token, FollowTokens}
+use Rattle.ir_grammar.specs.Nesting.{Position, at_root, behind_root_results, at_end, in_operation, in_operands, in_successor, in_region, in_header, in_argument, in_block, behind_results, in_type, in_attribute, in_list, in_item, Move, goes_to, goes_in, goes_out, nowhere, move, Nests, has_own_token, FollowTokens}
 
 -- ---- where what is read leads to
 
@@ -70,6 +70,7 @@ number_of_position in_type = 10
 number_of_position in_attribute = 11
 number_of_position in_list = 12
 number_of_position in_item = 13
+number_of_position in_successor = 14
 
 -- two positions are the same
 abbrev pub is_same_position : Position → Position → Bool
@@ -180,11 +181,16 @@ frame_leads =
 abbrev pub operands_leads : List (Position × Position)
 operands_leads = stays in_operands ∷ []
 
+-- what stands among the operands that an edge hands on
+abbrev pub edge_leads : List (Position × Position)
+edge_leads = stays in_successor ∷ []
+
 -- what stands in a list of a format
 abbrev pub list_leads : List (Position × Position)
 list_leads = stays in_list ∷ []
 
--- With this of the parts of lists, from 14 on. A list has two parts: its members, and what follows a member.
+-- With this of the parts of lists, from 14 on. A list has two parts: its members, and what follows a member. So have the operands
+-- of an edge.
 abbrev pub leads_with : List (List (Position × Position)) → PartPositions
 leads_with lists n = slice_index_or (frame_leads ++ lists) n []
 

@@ -4,7 +4,7 @@ use Rattle.std.specs.Borrow.{Bor}
 use Rattle.std.specs.List.{range_with_len}
 use Rattle.std.specs.Str.{bytes_eq}
 use Rattle.ir_names.specs.Text.{is_identifier}
-use Rattle.ir_print.specs.Formats.{Formats, Kind, Step, Steps, word, operands, operand, an_attribute, a_type, a_region, symbol_name, a_name, a_number, a_width, list_of, no_steps, step}
+use Rattle.ir_print.specs.Formats.{Formats, Kind, Step, Steps, word, operands, operand, successor, an_attribute, a_type, a_region, symbol_name, a_name, a_number, a_width, list_of, no_steps, step}
 use Rattle.ir_grammar.specs.declared.grammar.Action.{Action}
 use Rattle.ir_grammar.specs.declared.grammar.Action.TheVariants as act
 use Rattle.ir_grammar.specs.declared.grammar.Symbol.{Symbol}
@@ -46,6 +46,7 @@ abbrev mutual
   words_in_step (word printed w) = w ∷ []
   words_in_step operands = codes "," ∷ []
   words_in_step operand = []
+  words_in_step successor = codes "," ∷ []
   words_in_step an_attribute = []
   words_in_step a_type = []
   words_in_step a_region = []
@@ -241,6 +242,11 @@ abbrev mutual
     next = up n 2;
   }
   step_made ws operand n = just (Act act.BeginOperands ∷ name ∷ Act act.Operand ∷ Act act.EndOperands ∷ []) n
+  step_made ws successor n = record {
+    symbols = sign ws (codes "^") ∷ name ∷ Act act.BeginSuccessor ∷ sign ws (codes "(") ∷ Part n ∷ sign ws (codes ")") ∷ Act act.EndSuccessor ∷ [];
+    rules = several n (sign ws (codes ",")) (name ∷ Act act.Operand ∷ []);
+    next = up n 2;
+  }
   step_made ws an_attribute n = just (Part attribute ∷ []) n
   step_made ws a_type n = just (Part type_part ∷ []) n
   step_made ws a_region n = just (Part region ∷ []) n

@@ -1,7 +1,7 @@
 //! The grammar of texts, made from the formats of their kinds.
 ghost use Rattle.std.specs.Prelude.{◌≡◌, ◌∷◌, [], ◌++◌, OnOk, IfOk, IfSome, length, map, min, ◌+◌, ◌≤◌, codes, true, false};
 ghost use Rattle.std.specs.Str.{trim};
-ghost use Rattle.ir_print.specs.Formats.{is_small, operands, step_of, steps_of};
+ghost use Rattle.ir_print.specs.Formats.{is_small, operands, successor, step_of, steps_of};
 ghost use Rattle.ir_grammar.specs.declared.grammar.Action.TheVariants as act;
 ghost use Rattle.ir_grammar.specs.declared.grammar.Symbol.TheVariants.{Part, Act};
 ghost use Rattle.ir_formats.specs.Rules.{up, texts, number_of, with_word, with_words, words_in, words_in_step, words_of, words_of_kinds, frame_words, sign, may_be_name, takes, class_of, classes_of, several, step_made, steps_made, kind_made, kinds_made, formats_made, part_of, begin_of, end_of, operation_rules, region_rules, block_rules, argument_rules, rules_of, parts_of, plain_rule, plain_rules, plain_classes};
@@ -209,7 +209,7 @@ fn add_directive(words: &mut Vec<&'static str>, directive: Directive) -> Result<
 {
     match directive {
         Directive::Literal(text) => add_word(words, text.trim())?,
-        Directive::Operands => add_word(words, ",")?,
+        Directive::Operands | Directive::Successor => add_word(words, ",")?,
         Directive::SymbolHeader => add_word(words, "@")?,
         Directive::List(member, separator) => {
             add_word(words, separator.trim())?;
@@ -358,6 +358,7 @@ impl RuleMaker {
                 self.list(symbols, list, separator, item)
             }
             Directive::Operands => self.operands(symbols),
+            Directive::Successor => self.successor(symbols),
             _ => self.without_rules(symbols, directive),
         }
     }
@@ -395,6 +396,26 @@ impl RuleMaker {
             Symbol::Act(Action::BeginOperands),
             Symbol::Part(list),
             Symbol::Act(Action::EndOperands),
+        ])?;
+        let operand = [Symbol::Sign(NAME_SIGN), Symbol::Act(Action::Operand)];
+        self.several(list, self.sign(","), &operand)
+    }
+
+    /// An edge: `^` and the label of a block, and in parentheses the names of values that are handed on, none or more with
+    /// commas between them.
+    fn successor(&mut self, symbols: &mut Vec<Symbol>) -> Result<(), AllocError>
+        ensures { OnOk result (AddsSymbolsAndRules self.old self.new symbols.old.items symbols.new.items
+            (step_made (texts self.old.words.items) successor self.old.next_list)) }
+    {
+        let list = self.list_part();
+        symbols.extend_from_slice(&[
+            self.sign("^"),
+            Symbol::Sign(NAME_SIGN),
+            Symbol::Act(Action::BeginSuccessor),
+            self.sign("("),
+            Symbol::Part(list),
+            self.sign(")"),
+            Symbol::Act(Action::EndSuccessor),
         ])?;
         let operand = [Symbol::Sign(NAME_SIGN), Symbol::Act(Action::Operand)];
         self.several(list, self.sign(","), &operand)
@@ -439,7 +460,7 @@ impl RuleMaker {
             Directive::Width => {
                 symbols.extend_from_slice(&[Symbol::Sign(WIDTH_SIGN), Symbol::Act(Action::Width)])
             }
-            Directive::Operands | Directive::List(_, _) => Ok(()),
+            Directive::Operands | Directive::Successor | Directive::List(_, _) => Ok(()),
         }
     }
 

@@ -2,7 +2,7 @@
 use Rattle.std.specs.Prelude.{◌≡◌, List, [], ◌∷◌, Bool, true, false}
 use Rattle.std.specs.Bool.{MatchBool}
 use Rattle.ir_grammar.specs.declared.grammar.Action.{Action}
-use Rattle.ir_grammar.specs.declared.grammar.Action.TheVariants.{Result, Operation, EndOperation, BeginRegion, EndRegion, Label, Argument, Header, EndBlock, BeginType, EndType, BeginAttribute, EndAttribute, Name, Number, Width, BeginOperands, Operand, EndOperands, BeginList, BeginItem, EndItem, EndList}
+use Rattle.ir_grammar.specs.declared.grammar.Action.TheVariants.{Result, Operation, EndOperation, BeginRegion, EndRegion, Label, Argument, Header, EndBlock, BeginType, EndType, BeginAttribute, EndAttribute, Name, Number, Width, BeginOperands, Operand, EndOperands, BeginSuccessor, EndSuccessor, BeginList, BeginItem, EndItem, EndList}
 use Rattle.ir_grammar.specs.declared.grammar.Event.{Event}
 use Rattle.ir_grammar.specs.declared.grammar.Event.TheVariants.{Took, Did}
 
@@ -10,8 +10,8 @@ use Rattle.ir_grammar.specs.declared.grammar.Event.TheVariants.{Took, Did}
 pub data Position : Type 0 where
   -- before the root operation, behind names of its results, behind it
   at_root behind_root_results at_end : Position
-  -- in an operation, among its operands, in a region
-  in_operation in_operands in_region : Position
+  -- in an operation, among its operands, among those that an edge hands on, in a region
+  in_operation in_operands in_successor in_region : Position
   -- in the header of a block, behind the name of an argument
   in_header in_argument : Position
   -- among the operations of a block, behind names of results
@@ -41,6 +41,7 @@ abbrev pub operation_move : Action → Move
 operation_move EndOperation = goes_out
 operation_move BeginRegion = goes_in in_region in_operation
 operation_move BeginOperands = goes_in in_operands in_operation
+operation_move BeginSuccessor = goes_in in_successor in_operation
 operation_move a = piece_move in_operation a
 
 abbrev pub type_move : Action → Move
@@ -64,6 +65,11 @@ abbrev pub operands_move : Action → Move
 operands_move EndOperands = goes_out
 operands_move Operand = goes_to in_operands
 operands_move _ = nowhere
+
+abbrev pub successor_move : Action → Move
+successor_move EndSuccessor = goes_out
+successor_move Operand = goes_to in_successor
+successor_move _ = nowhere
 
 abbrev pub region_move : Action → Move
 region_move EndRegion = goes_out
@@ -102,6 +108,7 @@ move behind_root_results a = results_move behind_root_results at_end a
 move at_end a = nowhere
 move in_operation a = operation_move a
 move in_operands a = operands_move a
+move in_successor a = successor_move a
 move in_region a = region_move a
 move in_header a = header_move a
 move in_argument a = argument_move a
@@ -140,6 +147,7 @@ has_own_token Name = true
 has_own_token Number = true
 has_own_token Width = true
 has_own_token Operand = true
+has_own_token BeginSuccessor = true
 has_own_token _ = false
 
 -- Each such action comes straight behind its token. At first a token may have been taken just now.
@@ -150,12 +158,13 @@ FollowTokens fresh (Did a ∷ es) = MatchBool (has_own_token a) ((fresh ≡ true
 
 -- ---- what events have of themselves
 
--- the action names a value or a block
+-- the action names a value or a block: a block is named by its own label and by each edge to it
 abbrev pub names_value_or_block : Action → Bool
 names_value_or_block Result = true
 names_value_or_block Argument = true
 names_value_or_block Label = true
 names_value_or_block Operand = true
+names_value_or_block BeginSuccessor = true
 names_value_or_block _ = false
 
 -- Each name of a value or a block has a token of its own: before each action that names one a token is taken, behind the one

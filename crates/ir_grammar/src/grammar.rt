@@ -53,6 +53,10 @@ pub enum Action {
     Operand,
     /// The operands have been read.
     EndOperands,
+    /// The name is the label of a block that an edge leads to; what the edge hands on comes.
+    BeginSuccessor,
+    /// The edge has been read, with the operands that it hands on.
+    EndSuccessor,
     /// A list begins behind this token.
     BeginList,
     /// A member of the list begins with the next token.

@@ -10,6 +10,8 @@ mutual
     operands : Step
     -- exactly one operand
     operand : Step
+    -- an edge to a block, with the operands that it hands on
+    successor : Step
     an_attribute : Step
     a_type : Step
     a_region : Step
@@ -35,6 +37,7 @@ abbrev pub step_by : Directive-F Step → Step
 step_by (Directive-F.Literal text) = word text.now (trim text.now)
 step_by Directive-F.Operands = operands
 step_by Directive-F.Operand = operand
+step_by Directive-F.Successor = successor
 step_by Directive-F.Attribute = an_attribute
 step_by Directive-F.«Type» = a_type
 step_by Directive-F.Region = a_region

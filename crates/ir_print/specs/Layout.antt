@@ -6,7 +6,7 @@ use Rattle.ir_names.specs.declared.kinds.Signedness.TheVariants.{Signless, Signe
 use Rattle.ir_names.specs.Tree.{node, no_tree, a_tree}
 use Rattle.ir_print.specs.Formats as step
 use Rattle.ir_print.specs.Formats.{Formats, Kind, Step, Steps, no_steps}
-use Rattle.ir_print.specs.Pieces.{type_of_kind, attribute_of_kind, list, item, operands, region, name, number, width, ValueTree, Pieces, EntityHead, operation, a_region, block, Entity, entity, Entities, no_entity, an_entity}
+use Rattle.ir_print.specs.Pieces.{type_of_kind, attribute_of_kind, list, item, operands, successor, region, name, number, width, ValueTree, Pieces, EntityHead, operation, a_region, block, Entity, entity, Entities, no_entity, an_entity}
 
 -- A part of a text: white space, a token, or a word as it is printed, with white space around it, and as it is read.
 pub data Chunk : Type 0 where
@@ -132,6 +132,7 @@ abbrev mutual
   piece_on f (node list ts) s rest = members_on s (parts_on f ts) rest
   piece_on f (node item ts) s rest = format_on a_word (member_of s) (parts_on f ts) rest
   piece_on f (node (operands n) ts) s rest = rest
+  piece_on f (node (successor n) ts) s rest = rest
   piece_on f (node region ts) s rest = rest
   piece_on f (node (name cs) ts) s rest = name_on s cs rest
   piece_on f (node (number negative magnitude) ts) s rest = token (number_text negative magnitude) ∷ rest
@@ -173,16 +174,23 @@ abbrev pub first_region_on : List (List Chunk → List Chunk) → Printer
 first_region_on [] s rest = rest
 first_region_on (r ∷ rs) s rest = r rest
 
--- What an operation says, given its operands and how its regions are printed: pieces take them one after the other.
-abbrev pub all_parts_on : Formats → Pieces → List (List ℕ) → List (List Chunk → List Chunk) → List (Option Printer)
-all_parts_on f no_tree us rs = []
-all_parts_on f (a_tree (node (operands n) _) ts) us rs = operands_on (take n us) ∷ all_parts_on f ts (drop n us) rs
-all_parts_on f (a_tree (node region _) ts) us rs = Some (first_region_on rs) ∷ all_parts_on f ts us (drop 1 rs)
-all_parts_on f (a_tree t ts) us rs = Some (piece_on f t) ∷ all_parts_on f ts us rs
+-- An edge: `^`, the first of some labels, and in parentheses the names of the values that it hands on. Without a label there is none.
+abbrev pub edge_on : (labels used : List (List ℕ)) → Printer
+edge_on [] us s rest = rest
+edge_on (l ∷ ls) us s rest = token (codes "^") ∷ token l ∷ token (codes "(") ∷ names_on us (token (codes ")") ∷ rest)
+
+-- What an operation says, given its operands, the labels of the blocks that it may go on to, and how its regions are printed: pieces
+-- take them one after the other.
+abbrev pub all_parts_on : Formats → Pieces → (used labels : List (List ℕ)) → List (List Chunk → List Chunk) → List (Option Printer)
+all_parts_on f no_tree us ls rs = []
+all_parts_on f (a_tree (node (operands n) _) ts) us ls rs = operands_on (take n us) ∷ all_parts_on f ts (drop n us) ls rs
+all_parts_on f (a_tree (node (successor n) _) ts) us ls rs = Some (edge_on ls (take n us)) ∷ all_parts_on f ts (drop n us) (drop 1 ls) rs
+all_parts_on f (a_tree (node region _) ts) us ls rs = Some (first_region_on rs) ∷ all_parts_on f ts us ls (drop 1 rs)
+all_parts_on f (a_tree t ts) us ls rs = Some (piece_on f t) ∷ all_parts_on f ts us ls rs
 
 -- the head of an operation, and what it says
 abbrev pub operation_head_on : Formats → EntityHead (List ℕ) → List (List Chunk → List Chunk) → List Chunk → List Chunk
-operation_head_on f (operation kind results used pieces) rs rest = results_on results (kind_on (slice_get f.operations kind) (all_parts_on f pieces used rs) rest)
+operation_head_on f (operation kind results used successors pieces) rs rest = results_on results (kind_on (slice_get f.operations kind) (all_parts_on f pieces used successors rs) rest)
 operation_head_on f _ rs rest = rest
 
 -- an argument: its name, and its type
@@ -200,7 +208,7 @@ arguments_on f (x ∷ xs) rest = argument_on f x (more_arguments_on f xs rest)
 
 -- the head of a block: `^`, its label, its arguments in parentheses, and `:`
 abbrev pub block_head_on : Formats → EntityHead (List ℕ) → List Chunk → List Chunk
-block_head_on f (block label arguments) rest = token (codes "^") ∷ token label ∷ token (codes "(") ∷ arguments_on f arguments (token (codes ")") ∷ token (codes ":") ∷ rest)
+block_head_on f (block named label arguments) rest = token (codes "^") ∷ token label ∷ token (codes "(") ∷ arguments_on f arguments (token (codes ")") ∷ token (codes ":") ∷ rest)
 block_head_on f _ rest = rest
 
 -- n is the indentation of the line that something begins on
@@ -265,9 +273,9 @@ AreFlatArguments d (x ∷ xs) = IsFlat d x.1 × AreFlatArguments d xs
 
 -- the head has at most so many in one another
 abbrev pub IsFlatHead : {N : Type 0} → ℕ → EntityHead N → Type 0
-IsFlatHead d (operation kind results used pieces) = AreFlat d pieces
+IsFlatHead d (operation kind results used successors pieces) = AreFlat d pieces
 IsFlatHead d a_region = Unit {0}
-IsFlatHead d (block label arguments) = AreFlatArguments d arguments
+IsFlatHead d (block named label arguments) = AreFlatArguments d arguments
 
 -- how deep what stands in an entity may be, where so deep is what the entity is
 abbrev pub InHead : {N : Type 0} → ℕ → EntityHead N → (ℕ → Type 0) → Type 0

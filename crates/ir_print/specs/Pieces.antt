@@ -16,6 +16,8 @@ pub data Piece : Type 0 where
   item : Piece
   -- so many operands
   operands : ℕ → Piece
+  -- an edge to another block, which hands on so many operands
+  successor : ℕ → Piece
   -- a region
   region : Piece
   -- a name, by its characters
@@ -46,14 +48,15 @@ pub record Values : Type 0 where
   -- the types of the results of an operation
   pub result_types : ℕ → Pieces → List ValueTree
 
--- What an operation, a region or a block says of itself, where an N names a value.
+-- What an operation, a region or a block says of itself, where an N names a value, or a block.
 pub data EntityHead (N : Type 0) : Type 0 where
-  -- An operation: its kind, its results with their types, its operands, and what it says beside them. Its regions are below it.
-  operation : (kind : ℕ) (results : List (N × ValueTree)) (operands : List N) (pieces : Pieces) → EntityHead N
+  -- An operation: its kind, its results with their types, its operands, the blocks that it may go on to, and what it says beside
+  -- them. Its regions are below it.
+  operation : (kind : ℕ) (results : List (N × ValueTree)) (operands : List N) (successors : List N) (pieces : Pieces) → EntityHead N
   -- a region, with its blocks below it
   a_region : EntityHead N
-  -- A block: its label, and its arguments with their types. Its operations are below it.
-  block : (label : List ℕ) (arguments : List (N × ValueTree)) → EntityHead N
+  -- A block: what names it, its label, and its arguments with their types. Its operations are below it.
+  block : (named : N) (label : List ℕ) (arguments : List (N × ValueTree)) → EntityHead N
 
 mutual
   -- an operation, a region or a block, with all that stands in it

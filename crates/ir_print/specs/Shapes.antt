@@ -5,8 +5,8 @@ use Rattle.ir_names.specs.Text.{is_identifier}
 use Rattle.ir_names.specs.Tree.{LabelledTree, Trees, node, no_tree, a_tree}
 use Rattle.ir_print.specs.Formats as step
 use Rattle.ir_print.specs.Formats.{Formats, Kind, Step, Steps, no_steps}
-use Rattle.ir_print.specs.Pieces.{type_of_kind, attribute_of_kind, list, item, operands, region, name, number, width, ValueTree, Pieces, Values}
-use Rattle.ir_print.specs.Shown.{Saying, ShowsAll, operands_said, Said, said_type, said_attribute, said_list, said_item, said_operands, said_region, said_name, said_number, said_width}
+use Rattle.ir_print.specs.Pieces.{type_of_kind, attribute_of_kind, list, item, operands, successor, region, name, number, width, ValueTree, Pieces, Values}
+use Rattle.ir_print.specs.Shown.{Saying, ShowsAll, operands_said, Said, said_type, said_attribute, said_list, said_item, said_operands, said_successor, said_region, said_name, said_number, said_width}
 
 -- the steps of a format that are no words
 abbrev pub parts_in : Steps → List Step
@@ -42,6 +42,7 @@ module _ {A : Type 0} where
     IsSaidAt s (node said_list us) = IsListOf s (λ ss. AreMembersSaidAt ss us)
     IsSaidAt s (node said_item us) = ⊥
     IsSaidAt s (node (said_operands n) us) = TakesOperands s n
+    IsSaidAt s (node (said_successor n) us) = s ≡ step.successor
     IsSaidAt s (node said_region us) = s ≡ step.a_region
     IsSaidAt s (node (said_name cs) us) = TakesName s × (is_identifier cs ≡ true)
     IsSaidAt s (node (said_number negative magnitude) us) = (s ≡ step.a_number) × (magnitude < 2 ^ 64)
@@ -73,6 +74,7 @@ module _ (f : Formats) (v : Values) where
     Fits s (node list ts) = IsListOf s (λ ss. FitMembers ss ts)
     Fits s (node item ts) = ⊥
     Fits s (node (operands n) ts) = TakesOperands s n
+    Fits s (node (successor n) ts) = s ≡ step.successor
     Fits s (node region ts) = s ≡ step.a_region
     Fits s (node (name cs) ts) = TakesName s × (is_identifier cs ≡ true)
     Fits s (node (number negative magnitude) ts) = (s ≡ step.a_number) × (magnitude < 2 ^ 64)

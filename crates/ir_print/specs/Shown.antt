@@ -1,5 +1,5 @@
 -- Which types, attributes and operations of a context say what.
-use Rattle.std.specs.Prelude.{◌≡◌, ℕ, ◌+◌, ◌^◌, ◌≤◌, Bool, List, [], ◌∷◌, Option, Some, None, slice_get, Vec}
+use Rattle.std.specs.Prelude.{◌≡◌, ℕ, suc, ◌+◌, ◌^◌, ◌≤◌, Bool, List, [], ◌∷◌, Option, Some, None, slice_get, Vec}
 use Rattle.std.specs.Global.{Global}
 use Rattle.ir_base.specs.declared.types.TypeHandle.{TypeHandle}
 use Rattle.ir_names.specs.declared.kinds.Signedness.{Signedness}
@@ -9,7 +9,7 @@ use Rattle.ir_names.specs.Tree.{LabelledTree, Trees, node, no_tree, a_tree}
 use Rattle.ir_print.specs.declared.format.Number.{Number}
 use Rattle.ir_print.specs.declared.format.Part.{Part}
 use Rattle.ir_print.specs.declared.format.Part.TheVariants as part
-use Rattle.ir_print.specs.Pieces.{type_of_kind, attribute_of_kind, list, item, operands, region, name, number, width, ValueTree, Pieces, Values}
+use Rattle.ir_print.specs.Pieces.{type_of_kind, attribute_of_kind, list, item, operands, successor, region, name, number, width, ValueTree, Pieces, Values}
 
 -- A piece of what something in a context says. Types are given by their handles.
 pub data Said (A : Type 0) : Type 0 where
@@ -18,6 +18,8 @@ pub data Said (A : Type 0) : Type 0 where
   -- a list, with its members below it, and a member, with what it says below it
   said_list said_item : Said A
   said_operands : ℕ → Said A
+  -- an edge, which hands on so many operands
+  said_successor : ℕ → Said A
   said_region : Said A
   said_name : List ℕ → Said A
   said_number : Bool → ℕ → Said A
@@ -61,6 +63,7 @@ abbrev mutual
   Shows {A = A} says types x (node list ts) = (us : Trees (Said A)) × (x ≡ node said_list us) × ShowsAll says types us ts
   Shows {A = A} says types x (node item ts) = (us : Trees (Said A)) × (x ≡ node said_item us) × ShowsAll says types us ts
   Shows says types x (node (operands n) ts) = x ≡ leaf (said_operands n)
+  Shows says types x (node (successor n) ts) = x ≡ leaf (said_successor n)
   Shows says types x (node region ts) = x ≡ leaf said_region
   Shows says types x (node (name cs) ts) = x ≡ leaf (said_name cs)
   Shows says types x (node (number negative magnitude) ts) = x ≡ leaf (said_number negative magnitude)
@@ -93,6 +96,7 @@ abbrev mutual
       (ms : Vec (Vec (Part D K A T) Global) Global) × (p ≡ part.List ms) × ShowsMembers says types ms.items ts
   ShowsPart says types p (node item ts) = ⊥
   ShowsPart says types p (node (operands n) ts) = p ≡ part.Operands n
+  ShowsPart says types p (node (successor n) ts) = p ≡ part.Successor n
   ShowsPart says types p (node region ts) = p ≡ part.Region
   ShowsPart says types p (node (name cs) ts) = (id : Identifier) × (p ≡ part.Name id) × (text_of id ≡ cs)
   ShowsPart says types p (node (number negative magnitude) ts) = (o : Option Number) × (p ≡ part.Number o) × IsNumber o negative magnitude
@@ -112,11 +116,18 @@ abbrev mutual
   ShowsMember says types ps (node item ts) = ShowsParts says types ps ts
   ShowsMember says types ps (node _ ts) = ⊥
 
--- how many operands pieces say, of which one piece at most says any
+-- how many operands pieces say, those that edges hand on among them
 abbrev pub operands_said : Pieces → ℕ
 operands_said no_tree = 0
 operands_said (a_tree (node (operands n) ts) rest) = n + operands_said rest
+operands_said (a_tree (node (successor n) ts) rest) = n + operands_said rest
 operands_said (a_tree (node _ ts) rest) = operands_said rest
+
+-- how many edges pieces say
+abbrev pub successors_said : Pieces → ℕ
+successors_said no_tree = 0
+successors_said (a_tree (node (successor n) ts) rest) = suc (successors_said rest)
+successors_said (a_tree (node _ ts) rest) = successors_said rest
 
 -- An operation of a kind with these attributes, and with the operands of these pieces, says them; its results have these types.
 pub record Drafts {K A T : Type 0} (says : Saying K A T) (types : List T) (values : Values) (kind : K) (n : ℕ) (ps : Pieces) (attributes : List (List ℕ × A)) (result_types : List TypeHandle) : Type 0 where

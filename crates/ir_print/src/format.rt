@@ -15,6 +15,8 @@ pub enum Directive {
     Attribute,
     /// A type with its id.
     Type,
+    /// An edge: `^`, the label of a block, and in parentheses the names of the values that it hands on.
+    Successor,
     /// Blocks in braces.
     Region,
     /// `@` and the name of a symbol.
@@ -38,11 +40,13 @@ pub struct Number {
 
 /// A part of a value, one for each directive of its format that is no literal.
 ///
-/// Operands and regions stay with the operation, in the order of the text: a part gives their number.
+/// Operands, edges and regions stay with the operation, in the order of the text: a part gives the number of operands.
 #[derive(Drop)]
 pub enum Part<D: Dialects> {
     /// So many operands.
     Operands(usize),
+    /// An edge that hands on so many operands.
+    Successor(usize),
     Attribute(D::Attr),
     Type(TypeHandle),
     Region,

@@ -1,7 +1,7 @@
 -- Where each name of a value or a block has a token of its own, no two names have one token.
 use Rattle.std.proofs.Common.{◌≡◌, ℕ, suc, zero, ◌+◌, ◌<◌, ◌≤◌, Bool, true, false, List, [], ◌∷◌, ◌++◌, length, Some, None, slice_get, refl, sym, subst, ap, ◌∙◌, arith, ◌⊎◌, inl, inr}
 use Rattle.std.specs.Bool.{MatchBool}
-use Rattle.ir_grammar.specs.declared.grammar.Action.TheVariants.{Result, Argument, Label, Operand}
+use Rattle.ir_grammar.specs.declared.grammar.Action.TheVariants.{Result, Argument, Label, Operand, BeginSuccessor}
 use Rattle.ir_grammar.specs.declared.grammar.Event.{Event}
 use Rattle.ir_grammar.specs.declared.grammar.Event.TheVariants.{Took, Did}
 use Rattle.ir_scopes.specs.declared.sites.Site.{Site}
@@ -39,7 +39,9 @@ labelled_here at (Did Label) i s h = let o = one _ s i h in (o.0, (refl, sym (ap
 labelled_here at (Did _) i s h = none s h
 
 label_mentioned_here : (at : EventPlace) (e : Event) (i : ℕ) (s : Site) → slice_get (label_mentioned at e) i ≡ Some s → (i ≡ 0) × NamesHere at e s
-label_mentioned_here at e i s h = none s h
+label_mentioned_here at Took i s h = none s h
+label_mentioned_here at (Did BeginSuccessor) i s h = let o = one _ s i h in (o.0, (refl, sym (ap (λ x. x.token) o.1)))
+label_mentioned_here at (Did _) i s h = none s h
 
 -- no event makes a name of both sorts
 abbrev AreOther : (EventPlace → Event → List Site) → (EventPlace → Event → List Site) → Type 0
@@ -63,13 +65,20 @@ mentioned_or_labelled at (Did Operand) i j s t h k = none t k
 mentioned_or_labelled at (Did _) i j s t h k = none s h
 
 defined_or_label_mentioned : AreOther defined label_mentioned
-defined_or_label_mentioned at e i j s t h k = none t k
+defined_or_label_mentioned at Took i j s t h k = none s h
+defined_or_label_mentioned at (Did Result) i j s t h k = none t k
+defined_or_label_mentioned at (Did Argument) i j s t h k = none t k
+defined_or_label_mentioned at (Did _) i j s t h k = none s h
 
 mentioned_or_label_mentioned : AreOther mentioned label_mentioned
-mentioned_or_label_mentioned at e i j s t h k = none t k
+mentioned_or_label_mentioned at Took i j s t h k = none s h
+mentioned_or_label_mentioned at (Did Operand) i j s t h k = none t k
+mentioned_or_label_mentioned at (Did _) i j s t h k = none s h
 
 labelled_or_label_mentioned : AreOther labelled label_mentioned
-labelled_or_label_mentioned at e i j s t h k = none t k
+labelled_or_label_mentioned at Took i j s t h k = none s h
+labelled_or_label_mentioned at (Did Label) i j s t h k = none t k
+labelled_or_label_mentioned at (Did _) i j s t h k = none s h
 
 -- ---- lists one behind the other
 

@@ -3,7 +3,7 @@ use Rattle.std.proofs.Common.{◌≡◌, ℕ, suc, zero, ◌+◌, ◌<◌, ◌�
 use Rattle.std.proofs.lemmas.Option.{slice_get_within}
 use Rattle.std.proofs.lemmas.Bool.{eq-eqb}
 use Rattle.ir_tokens.specs.declared.faults.Fault.{Fault}
-use Rattle.ir_grammar.specs.declared.grammar.Action.TheVariants.{Result, Argument, Label, Operand, Operation, EndOperation, BeginRegion, EndRegion}
+use Rattle.ir_grammar.specs.declared.grammar.Action.TheVariants.{Result, Argument, Label, Operand, BeginSuccessor, Operation, EndOperation, BeginRegion, EndRegion}
 use Rattle.ir_grammar.specs.declared.grammar.Event.{Event}
 use Rattle.ir_grammar.specs.declared.grammar.Event.TheVariants.{Took, Did}
 use Rattle.ir_scopes.specs.declared.sites.Closing.{Closing}
@@ -45,7 +45,9 @@ labelled_at at (Did Label) i s h = let o = sym (one _ s i h) in (ap (λ x. x.sco
 labelled_at at (Did _) i s h = none s h
 
 pub label_mentioned_at : IsMadeHere (λ f. f.labels) label_mentioned
-label_mentioned_at at e i s h = none s h
+label_mentioned_at at Took i s h = none s h
+label_mentioned_at at (Did BeginSuccessor) i s h = let o = sym (one _ s i h) in (ap (λ x. x.scope) o, ap (λ x. x.token) o)
+label_mentioned_at at (Did _) i s h = none s h
 
 ended_at : (x : Closing) (next i : ℕ) (c : Closing) → slice_get (ended x next) i ≡ Some c → (c ≡ x) × (next ≡ x.scope → ⊥)
 ended_at x next i c h = go (nat_eq next x.scope) refl h

@@ -1,4 +1,4 @@
--- Which tokens name definitions of values, which mention values, and which name blocks.
+-- Which tokens name definitions of values, which mention values, which name blocks, and which mention blocks.
 use Rattle.std.specs.Prelude.{ℕ, ◌+◌, ◌-◌, List, [], ◌∷◌, ◌++◌}
 use Rattle.ir_grammar.specs.declared.grammar.Action.{Action}
 use Rattle.ir_grammar.specs.declared.grammar.Action.TheVariants as act
@@ -36,3 +36,13 @@ abbrev pub labelled_from : ℕ → List Event → List ℕ
 labelled_from n [] = []
 labelled_from n (Took ∷ es) = labelled_from (n + 1) es
 labelled_from n (Did a ∷ es) = labelled_by a (n - 1) ++ labelled_from n es
+
+-- the same of the tokens that mention blocks, the labels of edges
+abbrev pub label_mentioned_by : Action → ℕ → List ℕ
+label_mentioned_by act.BeginSuccessor k = k ∷ []
+label_mentioned_by _ k = []
+
+abbrev pub label_mentioned_from : ℕ → List Event → List ℕ
+label_mentioned_from n [] = []
+label_mentioned_from n (Took ∷ es) = label_mentioned_from (n + 1) es
+label_mentioned_from n (Did a ∷ es) = label_mentioned_by a (n - 1) ++ label_mentioned_from n es

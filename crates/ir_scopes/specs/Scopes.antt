@@ -5,7 +5,7 @@ use Rattle.std.specs.BTreeSet as bag
 use Rattle.std.specs.BTreeSet.{BTreeSet}
 use Rattle.std.specs.Ordering.{nat_cmp}
 use Rattle.ir_grammar.specs.declared.grammar.Action.{Action}
-use Rattle.ir_grammar.specs.declared.grammar.Action.TheVariants.{Result, Argument, Label, Operand, Operation, EndOperation, BeginRegion, EndRegion}
+use Rattle.ir_grammar.specs.declared.grammar.Action.TheVariants.{Result, Argument, Label, Operand, BeginSuccessor, Operation, EndOperation, BeginRegion, EndRegion}
 use Rattle.ir_grammar.specs.declared.grammar.Event.{Event}
 use Rattle.ir_grammar.specs.declared.grammar.Event.TheVariants.{Took, Did}
 use Rattle.ir_tokens.specs.declared.faults.Fault.{Fault}
@@ -131,9 +131,10 @@ abbrev pub mentioned : EventPlace → Event → List Site
 mentioned at (Did Operand) = record { scope = at.here.values; token = last_token at } ∷ []
 mentioned at _ = []
 
--- the blocks that it mentions by their labels: no rule of a grammar gives mentions of blocks yet
+-- the blocks that it mentions by their labels: an edge mentions the block that it leads to
 abbrev pub label_mentioned : EventPlace → Event → List Site
-label_mentioned at e = []
+label_mentioned at (Did BeginSuccessor) = record { scope = at.here.labels; token = last_token at } ∷ []
+label_mentioned at _ = []
 
 -- the end of the scope of values in which a frame is, at a token
 abbrev pub values_end : ℕ → Frame → Closing

@@ -39,6 +39,8 @@ pub struct Counts {
     pub regions: usize,
     /// The mentions of values.
     pub mentions: usize,
+    /// The edges to blocks: each mentions one label.
+    pub edges: usize,
 }
 
 /// Why names aren't looked up.
@@ -419,6 +421,7 @@ fn counts_of(sites: &Sites) -> Counts {
         operations: sites.operations,
         regions: sites.regions,
         mentions: sites.values.mentions.len(),
+        edges: sites.labels.mentions.len(),
     }
 }
 

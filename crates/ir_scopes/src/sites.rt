@@ -304,6 +304,7 @@ impl Sites {
                 .push(at.site(at.here.values))?,
             Action::Label => self.labels.definitions.push(at.site(at.here.labels))?,
             Action::Operand => self.values.mentions.push(at.site(at.here.values))?,
+            Action::BeginSuccessor => self.labels.mentions.push(at.site(at.here.labels))?,
             Action::Operation(number) => {
                 self.operations = self.operations.saturating_add(1);
                 at.enter(at.operation(is_isolated(isolated, number)))?;

@@ -10,7 +10,7 @@ use Rattle.ir_program.specs.declared.handles.Value.{Value}
 use Rattle.ir_print.specs.Pieces.{Entity}
 use Rattle.ir_print.specs.Shown.{Saying}
 use Rattle.text_dialect.specs.Seen.{SeenBlock, Seen}
-use Rattle.text_dialect.specs.Standing.{HasTree}
+use Rattle.text_dialect.specs.Standing.{Naming, HasTree}
 
 -- the name of the value with a number: `v` and the number
 abbrev pub value_name : ℕ → List ℕ
@@ -33,6 +33,13 @@ IsValueName v name = name ≡ value_name v.number
 abbrev pub IsBlockName : Ptr BasicBlock → SeenBlock → List ℕ → Type 0
 IsBlockName p b label = label ≡ block_name (label_front b.label) p.key.slot p.key.version
 
+-- the names with which values and blocks are printed
+abbrev pub printed_names : {K A T : Type 0} → Seen K A T → Naming (List ℕ)
+printed_names s = record {
+  value = IsValueName;
+  block = λ p named. (v : SeenBlock) × (s.block p ≡ Some v) × IsBlockName p v named;
+}
+
 -- an operation is printed as a tree with these names
 abbrev pub PrintsAs : {K A T : Type 0} → Saying K A T → Seen K A T → Ptr Operation → Entity (List ℕ) → Type 0
-PrintsAs says s p t = HasTree says IsValueName IsBlockName s p t
+PrintsAs says s p t = HasTree says (printed_names s) IsBlockName s p t
