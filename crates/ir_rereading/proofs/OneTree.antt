@@ -1,5 +1,5 @@
 -- A text says one tree.
-use Rattle.std.proofs.Common.{◌≡◌, ℕ, true, List, [], ◌∷◌, map, None, slice_index, refl, sym, subst, ap, ◌∙◌, inl, inr}
+use Rattle.std.proofs.Common.{◌≡◌, ℕ, true, List, [], ◌∷◌, map, None, slice_index, refl, sym, subst, ap, ◌∙◌, arith, inl, inr}
 use Rattle.std.specs.Str.{chars}
 use Rattle.ir_names.specs.Tree.{Trees}
 use Rattle.ir_print.specs.Pieces.{Entity, no_entity, an_entity}
@@ -11,7 +11,7 @@ use Rattle.ir_grammar.specs.declared.grammar.Event.{Event}
 use Rattle.ir_grammar.specs.declared.grammar.Event.TheVariants.{Took}
 use Rattle.ir_grammar.specs.declared.grammar.Stop.{Stop}
 use Rattle.ir_grammar.specs.declared.grammar.Stop.TheVariants as stops
-use Rattle.ir_grammar.specs.Nesting.{at_root, at_end}
+use Rattle.ir_grammar.specs.Nesting.{at_root, at_end, Nests}
 use Rattle.ir_grammar.specs.Reading.{AreMostlyAlike}
 use Rattle.ir_formats.specs.Ordered.{is_ordered}
 use Rattle.ir_formats.specs.Ordered as ordered
@@ -20,9 +20,9 @@ use Rattle.ir_formats.specs.Words.{kind_of, token_text}
 use Rattle.ir_scopes.specs.declared.scopes.Resolution.{Resolution}
 use Rattle.ir_scopes.specs.declared.sites.Site.{Site}
 use Rattle.ir_scopes.specs.Depth.{IsTooDeep}
-use Rattle.ir_scopes.specs.Scopes.{definitions, mentions, Means, IsResolved}
+use Rattle.ir_scopes.specs.Scopes.{definitions, mentions, labels, label_mentions, Means, IsResolved}
 use Rattle.ir_scopes.proofs.Depths.{deep_stays, deep_some}
-use Rattle.ir_forest.specs.Closed.{definitions_of}
+use Rattle.ir_forest.specs.Closed.{definitions_of, blocks_of}
 use Rattle.ir_forest.specs.Forest.{ActionSpan, IsForestOf}
 use Rattle.ir_forest.specs.Language.{Language}
 use Rattle.ir_forest.specs.Meaning.{operations_in, renamed}
@@ -30,14 +30,18 @@ use Rattle.ir_forest.specs.Progress.{Leads}
 use Rattle.ir_forest.specs.ValueFaults.{HasNamesFault}
 use Rattle.ir_forest.proofs.BuiltTrees.{forest_is_built}
 use Rattle.ir_rereading.specs.Texts.{IsReading, HasFault, Says}
-use Rattle.ir_rereading.proofs.TreeTexts.{value_spelled, spelled_alike, numbered_alike}
-use Rattle.ir_rereading.proofs.TreeTexts.{definitions_within, mentions_within}
+use Rattle.ir_rereading.proofs.TreeTexts.{value_spelled, label_spelled, label_mention_spelled, spelled_alike, numbered_alike}
+use Rattle.ir_rereading.proofs.TreeTexts.{has_own, all_numbered, definitions_within, mentions_within}
 use Rattle.ir_rereading.proofs.trees.Closings.{mentions_end}
-use Rattle.ir_rereading.proofs.trees.TreeRenamed.{operands_of}
+use Rattle.ir_rereading.proofs.trees.LabelNumbers.{label_meant}
+use Rattle.ir_rereading.proofs.trees.LabelTexts.{tree_blocks}
+use Rattle.ir_rereading.proofs.trees.LabelTokens.{labels_taken, label_mentions_taken}
+use Rattle.ir_rereading.proofs.trees.TreeEdges.{edge_tokens}
+use Rattle.ir_rereading.proofs.trees.TreeRenamed.{operands_of, successors_of}
 use Rattle.ir_rereading.proofs.trees.TreeScopes.{definition_tokens, mention_tokens}
 use Rattle.ir_rereading.proofs.trees.TreeSites.{In, of_map}
 use Rattle.ir_rereading.proofs.verdicts.Agreeing.{reads_there, one_stop}
-use Rattle.ir_rereading.proofs.verdicts.TextReadings.{read_whole}
+use Rattle.ir_rereading.proofs.verdicts.TextReadings.{read_in_order, read_whole}
 use Rattle.ir_rereading.proofs.SameNames.{renamed_same}
 use Rattle.ir_rereading.proofs.WholeTexts.{alike_whole}
 
@@ -76,6 +80,30 @@ module _ (l : Language) (leads : ordered.PartPositions) (ok : is_ordered leads (
       ∙ sym (again.values.mentioned i.0 j.0 m i.1 (means_again m i j.0 j.1)
       (mentions_within l cs ts numbers stop n es other leads ok other.numbered m i))
 
+  -- the same of labels: at each is its number
+  label_same : (s : Site) → In s (labels l.isolated es) → IsSame s.token
+  label_same s i =
+      let lt = labels_taken l.isolated es (has_own l cs ts names stop n es reading leads ok) i.0 s i.1 in
+      let here = all_numbered l cs ts names stop n es reading leads ok reading.numbered in
+      let there = all_numbered l cs ts numbers stop n es other leads ok other.numbered in
+      resolved.labels.defined i.0 s i.1 (omega arith) ∙ sym (again.labels.defined i.0 s i.1 (omega arith))
+
+  label_means_again : (m : Site) → In m (label_mentions l.isolated es) → (j : ℕ) → Means names (labels l.isolated es) m j →
+      Means numbers (labels l.isolated es) m j
+  label_means_again m i j (d, at, (scope, name)) =
+      let here = label_spelled l cs ts names stop n es reading d (j, at) in
+      let there = label_mention_spelled l cs ts names stop n es reading m i in
+      let spelled = spelled_alike l cs ts names stop n es reading d.token m.token here there name in
+      (d, at, (scope, numbered_alike l cs ts numbers stop n es other d.token m.token here there spelled))
+
+  label_mention_same : Leads at_root [] es at_end [] → (m : Site) → In m (label_mentions l.isolated es) → IsSame m.token
+  label_mention_same led m i =
+      let j = label_meant l.isolated names es r resolved (has_own l cs ts names stop n es reading leads ok)
+      (all_numbered l cs ts names stop n es reading leads ok reading.numbered) led i.0 m i.1 in
+      let lt = label_mentions_taken l.isolated es (has_own l cs ts names stop n es reading leads ok) i.0 m i.1 in
+      let there = all_numbered l cs ts numbers stop n es other leads ok other.numbered in
+      j.2 ∙ sym (again.labels.mentioned i.0 j.0 m i.1 (label_means_again m i j.0 j.1) (omega arith))
+
 -- ---- one reading
 
 -- this reading of the text has no fault, and by it the text says the tree
@@ -90,7 +118,7 @@ record IsSaidBy (l : Language) (cs : List ℕ) (tree : Entity ℕ) (ts : List To
   grown : IsForestOf es forest
   within : operations_in l.values (token_text cs ts) [] forest ≡ an_entity body no_entity
   resolved : IsResolved l.isolated names es resolution
-  same : tree ≡ renamed (slice_index resolution.definitions) body
+  same : tree ≡ renamed (slice_index resolution.definitions) (slice_index resolution.definitions) body
 
 module _ (l : Language) (leads : ordered.PartPositions) (ok : is_ordered leads (rules_of l.formats) ≡ true) (cs : List ℕ)
     (t u : Entity ℕ) (ts : List Token) where
@@ -129,12 +157,31 @@ module _ (l : Language) (leads : ordered.PartPositions) (ok : is_ordered leads (
         (mention_same l leads ok cs ts a.names b.names stop n es a.reading b.reading a.resolution b.resolution a.resolved
         b.resolved led m.0 m.1)
 
+    nests : Nests at_root [] es
+    nests = (read_in_order l leads ok cs ts a.names n es stop a.reading).nests
+
+    block_same : (k : ℕ) → In k (blocks_of a.body) → Same k
+    block_same k i =
+        let tokens = tree_blocks l.isolated l.values (token_text cs ts) es a.forest a.body nests a.grown a.within in
+        let s = of_map (λ (s : Site). s.token) k (labels l.isolated es) (subst (In k) tokens i) in
+        subst Same s.2
+        (label_same l leads ok cs ts a.names b.names stop n es a.reading b.reading a.resolution b.resolution a.resolved
+        b.resolved s.0 s.1)
+
+    edge_same : (k : ℕ) → In k (successors_of a.body) → Same k
+    edge_same k i =
+        let m = edge_tokens l.isolated l.values (token_text cs ts) es a.forest a.body nests a.grown a.within k i in
+        subst Same m.2
+        (label_mention_same l leads ok cs ts a.names b.names stop n es a.reading b.reading a.resolution b.resolution
+        a.resolved b.resolved led m.0 m.1)
+
     said_same : t ≡ u
     said_same =
+        let here = slice_index a.resolution.definitions in
+        let there = slice_index b.resolution.definitions in
         a.same
-        ∙ (renamed_same (slice_index a.resolution.definitions) (slice_index b.resolution.definitions) a.body
-        defined_same operand_same
-        ∙ (ap (renamed (slice_index b.resolution.definitions)) one_body ∙ sym b.same))
+        ∙ (renamed_same here there here there a.body defined_same operand_same block_same edge_same
+        ∙ (ap (renamed there there) one_body ∙ sym b.same))
 
   -- ---- two readings
 

@@ -21,11 +21,11 @@ module _ (l : Language) (can : CanPrint l) (tree : Entity ℕ) (text : List ℕ)
   abbrev ν : ℕ → List ℕ
   ν n = value_name (of.number n)
 
-  spelt : IsSpelt of.printed
-  spelt = printed_spelt of.number of.small of.printed tree of.named of.blocks
-
   there : IsClosedTree l of.printed
-  there = closed_renamed ν l tree of.printed closed of.named of.labelled (printed_bare ν of.printed tree of.named closed.bare)
+  there = closed_renamed ν of.label l tree of.printed closed of.named of.labelled (printed_bare ν of.label of.printed tree of.named closed.bare)
+
+  spelt : IsSpelt of.printed
+  spelt = printed_spelt of.number of.small of.label of.printed tree of.named of.blocks there.edges
 
   same_text : text ++ 10 ∷ [] ≡ characters (marks l.formats of.printed) ++ 10 ∷ []
   same_text = ap (λ cs. cs ++ 10 ∷ []) (of.spelt ∙ layout_characters l.formats of.printed)
@@ -34,7 +34,7 @@ module _ (l : Language) (can : CanPrint l) (tree : Entity ℕ) (text : List ℕ)
   pub text_again : IsNumbered tree → (g : Grammar) → IsGrammarOf l.formats g → length (text ++ 10 ∷ []) < 2 ^ 63 → (again : Entity ℕ) × Says l (text ++ 10 ∷ []) again × IsSameModule again tree
   text_again numbered g known few =
       subst (λ cs. (again : Entity ℕ) × Says l cs again × IsSameModule again tree) (sym same_text)
-      (read_again l can.leads can.ordered can.printable can.outer g known tree of.printed ν closed numbered of.named of.distinct spelt of.labelled (subst (λ cs. length cs < 2 ^ 63) same_text few))
+      (read_again l can.leads can.ordered can.printable can.outer g known tree of.printed ν of.label closed numbered of.named of.distinct spelt of.labelled (subst (λ cs. length cs < 2 ^ 63) same_text few))
 
   -- Its bytes are its characters.
   pub text_bytes : IsUtf8 (text ++ 10 ∷ []) × (chars (text ++ 10 ∷ []) ≡ text ++ 10 ∷ [])

@@ -5,6 +5,7 @@ use Rattle.std.proofs.lemmas.Option.{slice_get-map}
 use Rattle.std.proofs.lemmas.List.{length-map}
 use Rattle.ir_names.specs.Tree.{Trees}
 use Rattle.ir_print.specs.Pieces.{Entity, no_entity, an_entity}
+use Rattle.ir_print.specs.Shown.{Pairs}
 use Rattle.ir_grammar.specs.declared.grammar.Event.{Event}
 use Rattle.ir_grammar.specs.declared.grammar.Grammar.{Grammar}
 use Rattle.ir_grammar.specs.declared.grammar.Stop.TheVariants as stops
@@ -16,7 +17,7 @@ use Rattle.ir_scopes.specs.declared.sites.Site.{Site}
 use Rattle.ir_forest.specs.Closed.{IsClosedTree, IsNumbered, AllDistinct, definitions_of, unlabelled, IsLabelled, IsScopedRoot, IsSameModule}
 use Rattle.ir_forest.specs.Forest.{ActionSpan, IsForestOf}
 use Rattle.ir_forest.specs.Meaning.{operations_in, renamed}
-use Rattle.ir_grammar.specs.Nesting.{at_root, at_end}
+use Rattle.ir_grammar.specs.Nesting.{at_root, at_end, Nests}
 use Rattle.ir_formats.specs.Ordered as ordered
 use Rattle.ir_formats.specs.Ordered.{is_ordered}
 use Rattle.ir_rereading.specs.Outer.{has_outer_operands}
@@ -24,7 +25,7 @@ use Rattle.ir_rereading.specs.Printable.{is_printable}
 use Rattle.ir_forest.specs.Progress.{Leads}
 use Rattle.ir_grammar.specs.Reading.{Reads}
 use Rattle.ir_formats.specs.Rules.{words_of, rules_of, with_words, IsGrammarOf}
-use Rattle.ir_scopes.specs.Scopes.{definitions, mentions, labels, closings, label_mentions, label_closings, value_names, label_names, Means, Resolves, IsAgain, IsUnresolvedName}
+use Rattle.ir_scopes.specs.Scopes.{definitions, mentions, labels, closings, label_mentions, label_closings, value_names, label_names, name_of, Means, NamesAreApart, Resolves, IsAgain, IsUnresolvedName}
 use Rattle.ir_rereading.specs.Texts.{IsReading, HasFault, Says}
 use Rattle.ir_formats.specs.Words.{token_text, text_of, kind_of, name_number, spelled_texts, AlikeInNumber}
 use Rattle.ir_forest.specs.Language.{Language}
@@ -43,13 +44,18 @@ use Rattle.ir_formats.proofs.Ordered.{text_ends}
 use Rattle.ir_rereading.proofs.layouts.PlainWords.{words_plain}
 use Rattle.ir_formats.proofs.Spelled.{alike_by}
 use Rattle.ir_rereading.proofs.verdicts.TextReadings.{orders, leads_along, read_in_order}
-use Rattle.ir_rereading.proofs.trees.TreeAgain.{tree_again}
+use Rattle.ir_rereading.proofs.trees.TreeAgain.{AtBlock, blocks_apart, tree_again, blocks_again, edges_again}
+use Rattle.ir_rereading.proofs.trees.TreeAlike.{Alike}
 use Rattle.ir_rereading.proofs.trees.TreeClosed.{closed_renamed}
 use Rattle.ir_rereading.proofs.trees.TreeLabels.{labels_apart, labelled_renamed}
-use Rattle.ir_rereading.proofs.trees.LabelTokens.{no_label_mentions}
+use Rattle.ir_rereading.proofs.trees.LabelTexts.{tree_blocks}
+use Rattle.ir_rereading.proofs.trees.LabelTokens.{labels_taken, label_mentions_taken}
+use Rattle.ir_rereading.proofs.trees.TreeEdges.{Linked, LinkedToken, edge_tokens, edges_linked}
+use Rattle.ir_rereading.proofs.trees.TreeRenamed.{successors_of}
+use Rattle.ir_rereading.proofs.trees.TreeSites.{In}
 use Rattle.ir_rereading.proofs.trees.TreeNumbers.{resolution}
 use Rattle.ir_rereading.proofs.trees.TreeScopes.{definition_tokens, mention_tokens}
-use Rattle.ir_rereading.proofs.TreeTexts.{value_spelled, label_spelled, spelled_alike, names_apart, definitions_within, mentions_within, text_none_again, text_none_lacking, text_means}
+use Rattle.ir_rereading.proofs.TreeTexts.{value_spelled, label_spelled, label_mention_spelled, spelled_alike, numbered_alike, has_own, all_numbered, names_apart, definitions_within, mentions_within, text_none_again, text_none_lacking, text_means}
 
 -- ---- kinds of tokens
 
@@ -108,8 +114,8 @@ tokens_few cs i (t ∷ ts) le r = go t.kind refl r.3 (tokens_few cs t.end ts r.2
 -- ---- a whole text
 
 module _ (l : Language) (lead : ordered.PartPositions) (ok : is_ordered lead (rules_of l.formats) ≡ true) (printable : is_printable l.formats ≡ true) (outer : has_outer_operands l.formats ≡ true)
-    (g : Grammar) (known : IsGrammarOf l.formats g) (t : Entity ℕ) (p : Entity (List ℕ)) (ν : ℕ → List ℕ)
-    (closed : IsClosedTree l t) (numbered : IsNumbered t) (same : unlabelled p ≡ unlabelled (renamed ν t)) (distinct : AllDistinct (definitions_of p)) (spelt : IsSpelt p) (labels_differ : IsLabelled p) where
+    (g : Grammar) (known : IsGrammarOf l.formats g) (t : Entity ℕ) (p : Entity (List ℕ)) (ν μ : ℕ → List ℕ)
+    (closed : IsClosedTree l t) (numbered : IsNumbered t) (same : unlabelled p ≡ unlabelled (renamed ν μ t)) (distinct : AllDistinct (definitions_of p)) (spelt : IsSpelt p) (labels_differ : IsLabelled p) where
   abbrev ms : List Mark
   ms = marks l.formats p
 
@@ -120,7 +126,7 @@ module _ (l : Language) (lead : ordered.PartPositions) (ok : is_ordered lead (ru
   es = events ms
 
   there : IsClosedTree l p
-  there = closed_renamed ν l t p closed same labels_differ (printed_bare ν p t same closed.bare)
+  there = closed_renamed ν μ l t p closed same labels_differ (printed_bare ν μ p t same closed.bare)
 
   plain_there : IsPlainTree p
   plain_there = plain_tree l.formats l.values p outer there.fits there.bare
@@ -144,7 +150,7 @@ module _ (l : Language) (lead : ordered.PartPositions) (ok : is_ordered lead (ru
   kinds_are = ap (λ us. map (kind_of us cs) ts) (words_plain l.formats printable) ∙ kinds_by ws cs ts (tokens ms) lexed.2 lexed.3
 
   low : ((fault : Fault) → Rattle.ir_scopes.specs.Depth.IsTooDeep es fault → ⊥) × (Rattle.ir_grammar.specs.Reading.OpensMore 64 0 es → ⊥)
-  low = no_deep_fault l.formats l.values p there.fits plain_there there.operation there.shallow
+  low = no_deep_fault l.formats l.values p there.fits plain_there there.operation spelt there.shallow
 
   abbrev n : ℕ
   n = length (map (kind_by ws) (tokens ms))
@@ -167,8 +173,8 @@ module _ (l : Language) (lead : ordered.PartPositions) (ok : is_ordered lead (ru
       go None e a = absurd (cc)
       go (Some u) e a = cc
 
-  built : (forest : Trees ActionSpan) × (tree : Entity ℕ) × IsForestOf es forest × (operations_in l.values text [] forest ≡ an_entity tree no_entity) × (renamed text tree ≡ p) × Rattle.ir_forest.specs.ValueFaults.AreSound l.values text forest
-  built = layout_tree l.formats l.values p text there.fits plain_there there.operation has_text
+  built : (forest : Trees ActionSpan) × (tree : Entity ℕ) × IsForestOf es forest × (operations_in l.values text [] forest ≡ an_entity tree no_entity) × (renamed text text tree ≡ p) × Rattle.ir_forest.specs.ValueFaults.AreSound l.values text forest
+  built = layout_tree l.formats l.values p text there.fits plain_there there.operation spelt has_text
 
   abbrev tree : Entity ℕ
   tree = built.1
@@ -180,19 +186,19 @@ module _ (l : Language) (lead : ordered.PartPositions) (ok : is_ordered lead (ru
   forest = built.0
 
   no_names : (f : Fault) → Rattle.ir_forest.specs.ValueFaults.HasNamesFault l.values text es f → ⊥
-  no_names = no_names_fault l.formats l.values p text there.fits plain_there there.operation has_text
+  no_names = no_names_fault l.formats l.values p text there.fits plain_there there.operation spelt has_text
 
   no_numbers : (f : Fault) → Rattle.ir_forest.specs.ValueFaults.HasNumberFault l.values text es f → ⊥
-  no_numbers = no_number_fault l.formats l.values p text there.fits plain_there there.operation has_text
+  no_numbers = no_number_fault l.formats l.values p text there.fits plain_there there.operation spelt has_text
 
-  distinct_read : AllDistinct (definitions_of (renamed text tree))
+  distinct_read : AllDistinct (definitions_of (renamed text text tree))
   distinct_read = subst (λ u. AllDistinct (definitions_of u)) (sym built.4) distinct
 
-  scoped_read : IsScopedRoot l.isolated (renamed text tree)
+  scoped_read : IsScopedRoot l.isolated (renamed text text tree)
   scoped_read = subst (λ u. IsScopedRoot l.isolated u) (sym built.4) there.scoped
 
   labelled_read : IsLabelled tree
-  labelled_read = labelled_renamed text tree (subst (λ (u : Entity (List ℕ)). IsLabelled u) (sym built.4) labels_differ)
+  labelled_read = labelled_renamed text text tree (subst (λ (u : Entity (List ℕ)). IsLabelled u) (sym built.4) labels_differ)
 
   no_again : (f : Fault) → IsAgain numbers (definitions l.isolated es) f → ⊥
   no_again = text_none_again l cs ts numbers stops.Text n es reading forest tree built.2 built.3 leads no_names distinct_read scoped_read
@@ -207,8 +213,39 @@ module _ (l : Language) (lead : ordered.PartPositions) (ok : is_ordered lead (ru
   no_label_again = labels_apart l.isolated l.values text numbers es forest tree (read_in_order l lead ok cs ts numbers n es stops.Text reading).nests built.2 built.3
       (λ i j s u at to e. spelled_alike l cs ts numbers stops.Text n es reading s.token u.token (label_spelled l cs ts numbers stops.Text n es reading s (i, at)) (label_spelled l cs ts numbers stops.Text n es reading u (j, to)) e) labelled_read
 
+  nests : Nests at_root [] es
+  nests = (read_in_order l lead ok cs ts numbers n es stops.Text reading).nests
+
+  apart : NamesAreApart (value_names l.isolated es) (label_names l.isolated es)
+  apart = names_apart l cs ts numbers stops.Text n es reading lead ok
+
+  -- each label is at its own block
+  at_blocks : Alike (λ k m. text k ≡ ν m) (AtBlock (labels l.isolated es) text μ) tree t
+  at_blocks = blocks_apart (labels l.isolated es) (label_mentions l.isolated es) text ν μ tree t (ap unlabelled built.4 ∙ same) numbered
+      (tree_blocks l.isolated l.values text es forest tree nests built.2 built.3) (edge_tokens l.isolated l.values text es forest tree nests built.2 built.3) apart.labels
+
+  linked : ((m : Site) → In m (label_mentions l.isolated es)
+      → (y : ℕ) × Linked text (λ k m. text k ≡ ν m) (AtBlock (labels l.isolated es) text μ) (labels l.isolated es) (label_mentions l.isolated es) m y)
+      × Pairs (LinkedToken text (λ k m. text k ≡ ν m) (AtBlock (labels l.isolated es) text μ) (labels l.isolated es) (label_mentions l.isolated es))
+      (successors_of tree) (successors_of t)
+  linked = edges_linked l.isolated l.values text es forest tree nests built.2 built.3 (λ k m. text k ≡ ν m) (AtBlock (labels l.isolated es) text μ) t at_blocks closed.edges
+
+  -- a label and a mention of one text have one name
+  label_named : (s m : Site) → In s (labels l.isolated es) → In m (label_mentions l.isolated es) → text s.token ≡ text m.token
+      → name_of numbers s.token ≡ name_of numbers m.token
+  label_named s m i j e = numbered_alike l cs ts numbers stops.Text n es reading s.token m.token
+      (label_spelled l cs ts numbers stops.Text n es reading s i) (label_mention_spelled l cs ts numbers stops.Text n es reading m j) e
+
+  -- each mention of a block means a label
+  label_means : (i : ℕ) (m : Site) → slice_get (label_mentions l.isolated es) i ≡ Some m → (j : ℕ) × Means numbers (labels l.isolated es) m j
+  label_means i m at =
+      let found = linked.0 m (i, at) in
+      let d = found.1.0 in
+      let label = found.1.1 in
+      (label.0, (d, label.1, (found.1.2, label_named d m label (i, at) (found.1.3.0 ∙ sym found.1.4.0))))
+
   no_label_lacking : (f : Fault) → IsUnresolvedName numbers (labels l.isolated es) (label_mentions l.isolated es) (label_closings l.isolated es) f → ⊥
-  no_label_lacking f h = let lacks = h.3 in no_label_mentions l.isolated es lacks.0 lacks.1 lacks.2
+  no_label_lacking f h = let lacks = h.3 in let found = label_means lacks.0 lacks.1 lacks.2 in lacks.4 found.0 found.1
 
   as_many : n ≡ length ts
   as_many =
@@ -230,15 +267,27 @@ module _ (l : Language) (lead : ordered.PartPositions) (ok : is_ordered lead (ru
   -- the text says a tree that is the same but for its labels
   pub read_again : length cs < 2 ^ 63 → (again : Entity ℕ) × Says l cs again × IsSameModule again t
   read_again few = (
-    renamed (slice_index found.0.definitions) tree,
+    renamed (slice_index found.0.definitions) (slice_index found.0.definitions) tree,
     (ts, numbers, stops.Text, n, es, forest, tree, found.0, reading, none, built.2, built.3, record { faultless = λ f h. none f (inr (inr (inr (inr h)))); values = found.1; labels = found.2 }, refl),
-    tree_again l.isolated l.values numbers (definitions l.isolated es) (mentions l.isolated es) (closings l.isolated es) found.0 text ν tree t (ap unlabelled built.4 ∙ same)
+    tree_again l.isolated l.values numbers (definitions l.isolated es) (mentions l.isolated es) (closings l.isolated es) found.0 text ν μ tree t (ap unlabelled built.4 ∙ same)
         closed.operation numbered closed.scoped distinct_read (definition_tokens l.isolated l.values text es forest tree built.2 built.3 leads no_names)
         (mention_tokens l.isolated l.values text es forest tree built.2 built.3 leads no_names) found.1 (λ m i. means i.0 m i.1)
         (definitions_within l cs ts numbers stops.Text n es reading lead ok reading.numbered) (mentions_within l cs ts numbers stops.Text n es reading lead ok reading.numbered)
-        (λ s m i j e. spelled_alike l cs ts numbers stops.Text n es reading s.token m.token (value_spelled l cs ts numbers stops.Text n es reading s.token (s, inl i, refl)) (value_spelled l cs ts numbers stops.Text n es reading m.token (m, inr j, refl)) e),
+        (λ s m i j e. spelled_alike l cs ts numbers stops.Text n es reading s.token m.token (value_spelled l cs ts numbers stops.Text n es reading s.token (s, inl i, refl)) (value_spelled l cs ts numbers stops.Text n es reading m.token (m, inr j, refl)) e)
+        (blocks_again numbers (labels l.isolated es) (label_mentions l.isolated es) (label_closings l.isolated es) found.0 text ν μ tree t found.2 label_here label_within at_blocks
+        (tree_blocks l.isolated l.values text es forest tree nests built.2 built.3))
+        (edges_again numbers (labels l.isolated es) (label_mentions l.isolated es) (label_closings l.isolated es) found.0 text ν μ tree t found.2 label_here label_within label_named linked.1),
   )
     where
+      label_here : (s : Site) → In s (labels l.isolated es) → s.token < length numbers
+      label_here s i =
+          let lt = labels_taken l.isolated es (has_own l cs ts numbers stops.Text n es reading lead ok) i.0 s i.1 in
+          let enough = all_numbered l cs ts numbers stops.Text n es reading lead ok reading.numbered in omega arith
+
+      label_within : (m : Site) → In m (label_mentions l.isolated es) → m.token < length numbers
+      label_within m i =
+          let lt = label_mentions_taken l.isolated es (has_own l cs ts numbers stops.Text n es reading lead ok) i.0 m i.1 in
+          let enough = all_numbered l cs ts numbers stops.Text n es reading lead ok reading.numbered in omega arith
+
       found : (r : Resolution) × Resolves numbers (value_names l.isolated es) r.definitions r.count × Resolves numbers (label_names l.isolated es) r.definitions r.labels
-      found = resolution numbers (value_names l.isolated es) (label_names l.isolated es) means (λ i m at. absurd (no_label_mentions l.isolated es i m at))
-          (names_apart l cs ts numbers stops.Text n es reading lead ok) no_again no_label_again
+      found = resolution numbers (value_names l.isolated es) (label_names l.isolated es) means label_means apart no_again no_label_again

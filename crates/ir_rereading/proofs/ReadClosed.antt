@@ -1,9 +1,9 @@
 -- The tree of a text is closed.
-use Rattle.std.proofs.Common.{◌≡◌, ℕ, true, List, slice_index, sym, subst, inl, inr}
+use Rattle.std.proofs.Common.{◌≡◌, ℕ, true, List, [], slice_index, sym, subst, inl, inr}
 use Rattle.ir_print.specs.Layout.{AreFlat, IsShallow}
 use Rattle.ir_print.specs.Pieces.{Pieces, Entity}
 use Rattle.ir_forest.specs.Bare.{IsBareTree, KeepsBare}
-use Rattle.ir_forest.specs.Closed.{IsOperation, IsScopedRoot, IsNumbered, IsLabelled}
+use Rattle.ir_forest.specs.Closed.{IsOperation, IsScopedRoot, HasEdges, IsNumbered, IsLabelled}
 use Rattle.ir_formats.specs.Ordered as ordered
 use Rattle.ir_formats.specs.Ordered.{is_ordered}
 use Rattle.ir_formats.specs.Rules.{rules_of}
@@ -24,6 +24,7 @@ module _ (l : Language) (lead : ordered.PartPositions) (ok : is_ordered lead (ru
     pub operation : IsOperation l.values tree
     pub shallow : IsShallow 64 tree
     pub scoped : IsScopedRoot l.isolated tree
+    pub edges : HasEdges [] tree
     pub numbered : IsNumbered tree
     pub labelled : IsLabelled tree
     pub bare : IsBareTree tree
@@ -52,7 +53,8 @@ module _ (l : Language) (lead : ordered.PartPositions) (ok : is_ordered lead (ru
         operation = says_operation l lead ok cs tree says;
         shallow = says_shallow l flat cs tree says;
         scoped = subst (λ u. IsScopedRoot l.isolated u) (sym same) scopes.0;
-        numbered = subst IsNumbered (sym same) scopes.1;
-        labelled = subst (λ (u : Entity ℕ). IsLabelled u) (sym same) (renamed_labelled (slice_index r.definitions) t labels);
-        bare = subst (λ (u : Entity ℕ). IsBareTree u) (sym same) (bare_renamed (slice_index r.definitions) t (read_bare l.values (token_text cs ts) keeps forest t built));
+        edges = subst (λ (u : Entity ℕ). HasEdges [] u) (sym same) scopes.1;
+        numbered = subst IsNumbered (sym same) scopes.2;
+        labelled = subst (λ (u : Entity ℕ). IsLabelled u) (sym same) (renamed_labelled (slice_index r.definitions) (slice_index r.definitions) t labels);
+        bare = subst (λ (u : Entity ℕ). IsBareTree u) (sym same) (bare_renamed (slice_index r.definitions) (slice_index r.definitions) t (read_bare l.values (token_text cs ts) keeps forest t built));
       }

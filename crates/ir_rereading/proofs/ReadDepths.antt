@@ -52,6 +52,7 @@ ends_even act.Label act.EndBlock d e = refl
 ends_even (act.BeginType kind) act.EndType d e = omega arith
 ends_even (act.BeginAttribute kind) act.EndAttribute d e = omega arith
 ends_even act.BeginOperands act.EndOperands d e = refl
+ends_even act.BeginSuccessor act.EndSuccessor d e = refl
 ends_even act.BeginList act.EndList d e = refl
 ends_even act.BeginItem act.EndItem d e = refl
 ends_even _ _ d e = cc
@@ -114,6 +115,7 @@ module _ (v : Values) (text : ℕ → List ℕ) (flat : (n d : ℕ) (ps : Pieces
   piece_flat act.BeginList f l ts rest inner d e s lt low more = (inner d e s low, more)
   piece_flat act.BeginItem f l ts rest inner d e s lt low more = (inner d e s low, more)
   piece_flat act.BeginOperands f l ts rest inner d e s lt low more = (tt, more)
+  piece_flat act.BeginSuccessor f l ts rest inner d e s lt low more = (tt, more)
   piece_flat act.BeginRegion f l ts rest inner d e s lt low more = (tt, more)
   piece_flat act.Name f l ts rest inner d e s lt low more = (tt, more)
   piece_flat act.Number f l ts rest inner d e s lt low more = (number_so (λ z. IsFlat e (node z no_tree)) (λ negative magnitude. tt) (text f), more)
@@ -170,23 +172,23 @@ module _ (v : Values) (text : ℕ → List ℕ) (flat : (n d : ℕ) (ps : Pieces
 
 -- ---- other names
 
-module _ {M N : Type 0} (f : M → N) where
+module _ {M N : Type 0} (f g : M → N) where
   arguments_renamed : (d : ℕ) (xs : List (M × ValueTree)) → AreFlatArguments d xs → AreFlatArguments d (map (λ (r : M × ValueTree). (f r.0, r.1)) xs)
   arguments_renamed d [] h = tt
   arguments_renamed d (x ∷ xs) h = (h.0, arguments_renamed d xs h.1)
 
   deeper_still : (P Q : ℕ → Type 0) (d : ℕ) → ((e : ℕ) → P e → Q e) → Deeper d P → Deeper d Q
-  deeper_still P Q zero g h = absurd h
-  deeper_still P Q (suc d) g h = g d h
+  deeper_still P Q zero k h = absurd h
+  deeper_still P Q (suc d) k h = k d h
 
   mutual
-    -- how deep a tree is doesn't depend on the names of values
-    pub shallow_renamed : (t : Entity M) (d : ℕ) → IsShallow d t → IsShallow d (renamed f t)
-    shallow_renamed (entity (operation kind results used pieces) ts) d h = (h.0, all_shallow_renamed ts d h.1)
-    shallow_renamed (entity a_region ts) d h = (tt, deeper_still (λ e. AreShallow e ts) (λ e. AreShallow e (all_renamed f ts)) d (λ e g. all_shallow_renamed ts e g) h.1)
-    shallow_renamed (entity (block label arguments) ts) d h = (arguments_renamed d arguments h.0, all_shallow_renamed ts d h.1)
+    -- how deep a tree is doesn't depend on names
+    pub shallow_renamed : (t : Entity M) (d : ℕ) → IsShallow d t → IsShallow d (renamed f g t)
+    shallow_renamed (entity (operation kind results used successors pieces) ts) d h = (h.0, all_shallow_renamed ts d h.1)
+    shallow_renamed (entity a_region ts) d h = (tt, deeper_still (λ e. AreShallow e ts) (λ e. AreShallow e (all_renamed f g ts)) d (λ e x. all_shallow_renamed ts e x) h.1)
+    shallow_renamed (entity (block named label arguments) ts) d h = (arguments_renamed d arguments h.0, all_shallow_renamed ts d h.1)
 
-    all_shallow_renamed : (ts : Entities M) (d : ℕ) → AreShallow d ts → AreShallow d (all_renamed f ts)
+    all_shallow_renamed : (ts : Entities M) (d : ℕ) → AreShallow d ts → AreShallow d (all_renamed f g ts)
     all_shallow_renamed no_entity d h = tt
     all_shallow_renamed (an_entity t ts) d h = (shallow_renamed t d h.0, all_shallow_renamed ts d h.1)
 
@@ -196,7 +198,7 @@ says_shallow l flat cs tree (ts, names, stop, n, es, forest, t, r, reading, fine
     let text = token_text cs ts in
     let low = forest_low es forest whole (λ f h. fine f (inr (inr (inr (inl h))))) in
     let one : AreShallow 64 (an_entity t no_entity) = subst (AreShallow 64) said ((shallow l.values text flat forest).operations [] 0 64 refl low) in
-    subst (IsShallow 64) (sym same) (shallow_renamed _ t 64 one.0)
+    subst (IsShallow 64) (sym same) (shallow_renamed _ _ t 64 one.0)
 
 -- what a text says is a shallow operation
 pub read_tree : (l : Language) (leads : ordered.PartPositions) → is_ordered leads (rules_of l.formats) ≡ true → (cs : List ℕ) (tree : Entity ℕ) → Says l cs tree

@@ -1,8 +1,11 @@
--- What a text says is an operation: it has results of the types that its pieces give, and the regions that they say, and so have those in it.
+-- What a text says is an operation: it has results of the types that its pieces give, and the regions and edges that they say, and so
+-- have those in it.
 use Rattle.std.proofs.Common.{◌≡◌, ℕ, suc, ◌==◌, Bool, true, false, if◌then◌else◌, List, [], ◌∷◌, ◌++◌, map, length, None, refl, sym, subst, ap, ◌∙◌, arith, inl, inr}
+use Rattle.std.proofs.lemmas.List.{length-map}
 use Rattle.ir_names.specs.Tree.{Trees, node, no_tree, a_tree}
 use Rattle.ir_names.specs.declared.kinds.Signedness.TheVariants.{Signless, Signed, Unsigned}
 use Rattle.ir_print.specs.Pieces.{Piece, number, width, ValueTree, Values, operation, a_region, block, Entity, entity, Entities, no_entity, an_entity}
+use Rattle.ir_print.specs.Shown.{successors_said}
 use Rattle.ir_grammar.specs.declared.grammar.Action.{Action}
 use Rattle.ir_grammar.specs.declared.grammar.Action.TheVariants as act
 use Rattle.ir_grammar.specs.declared.grammar.Event.{Event}
@@ -12,8 +15,8 @@ use Rattle.ir_forest.specs.Building.{with_name}
 use Rattle.ir_forest.specs.Closed.{regions_said, number_in as entities_in, IsOperation, AreRegions, IsRegion, AreBlocks, IsBlock, AreOperations}
 use Rattle.ir_tokens.specs.Faults.{IsNamed}
 use Rattle.ir_forest.specs.Forest.{ActionSpan, IsForestOf}
-use Rattle.ir_forest.specs.Meaning.{digits, tail, number_in, width_in, pieces_in, typed, operations_in, regions_in, blocks_in, renamed, all_renamed}
-use Rattle.ir_grammar.specs.Nesting.{Position, at_root, behind_root_results, at_end, in_operation, in_operands, in_region, in_header, in_argument, in_block, behind_results, in_type, in_attribute, in_list, in_item, move}
+use Rattle.ir_forest.specs.Meaning.{digits, tail, number_in, width_in, pieces_in, typed, successors_in, operations_in, regions_in, blocks_in, renamed, all_renamed}
+use Rattle.ir_grammar.specs.Nesting.{Position, at_root, behind_root_results, at_end, in_operation, in_operands, in_successor, in_region, in_header, in_argument, in_block, behind_results, in_type, in_attribute, in_list, in_item, move}
 use Rattle.ir_formats.specs.Ordered.{is_ordered}
 use Rattle.ir_formats.specs.Ordered as ordered
 use Rattle.ir_formats.specs.Rules.{rules_of}
@@ -65,9 +68,14 @@ abbrev pub step_of : Action → ℕ → ℕ → ActionSpan
 step_of a f l = record { action = a; first = f; last = l }
 
 module _ (v : Values) (text : ℕ → List ℕ) where
-  -- an operation's pieces say as many regions as it has
-  abbrev HasRegions : Trees ActionSpan → Type 0
-  HasRegions ts = (regions_said (pieces_in v text ts) ≡ entities_in (regions_in v text ts)) × AreRegions v (regions_in v text ts)
+  -- an operation's pieces say as many regions and edges as it has
+  abbrev HasParts : Trees ActionSpan → Type 0
+  HasParts ts = (regions_said (pieces_in v text ts) ≡ entities_in (regions_in v text ts)) × (successors_said (pieces_in v text ts) ≡ length (successors_in ts)) × AreRegions v (regions_in v text ts)
+
+  -- the same of a piece, and those behind it
+  abbrev SaysParts : Piece → Trees ActionSpan → Type 0
+  SaysParts p rest = (regions_said (a_tree (node p no_tree) (pieces_in v text rest)) ≡ entities_in (regions_in v text rest))
+      × (successors_said (a_tree (node p no_tree) (pieces_in v text rest)) ≡ length (successors_in rest))
 
   abbrev HasOperations : List ℕ → Trees ActionSpan → Type 0
   HasOperations names ts = AreOperations v (operations_in v text names ts)
@@ -77,8 +85,9 @@ module _ (v : Values) (text : ℕ → List ℕ) where
   Shaped at_root names ts = HasOperations names ts
   Shaped behind_root_results names ts = HasOperations names ts
   Shaped at_end names ts = HasOperations names ts
-  Shaped in_operation names ts = HasRegions ts
+  Shaped in_operation names ts = HasParts ts
   Shaped in_operands names ts = Unit {0}
+  Shaped in_successor names ts = Unit {0}
   Shaped in_region names ts = AreBlocks v (blocks_in v text ts)
   Shaped in_header names ts = HasOperations [] ts
   Shaped in_argument names ts = HasOperations [] ts
@@ -93,8 +102,9 @@ module _ (v : Values) (text : ℕ → List ℕ) where
   none at_root names = tt
   none behind_root_results names = tt
   none at_end names = tt
-  none in_operation names = (refl, tt)
+  none in_operation names = (refl, refl, tt)
   none in_operands names = tt
+  none in_successor names = tt
   none in_region names = tt
   none in_header names = tt
   none in_argument names = tt
@@ -119,7 +129,7 @@ module _ (v : Values) (text : ℕ → List ℕ) where
         → HasOperations names (a_tree (node (step_of (act.Operation kind) f l) ts) rest)
     an_operation kind many pl others =
         let r = inner in_operation pl in
-        ((types_typed names (v.result_types kind (pieces_in v text ts)) many, r.0, r.1), others)
+        ((types_typed names (v.result_types kind (pieces_in v text ts)) many, r.0, r.1, r.2), others)
 
     shape : (p : Position) (a : Action) → PlacedBy (move p a) (λ q. Placed q ts) (λ q. Placed q rest) → CountsAt v text a names ts → Counts v text (with_name names a f) rest
         → Shaped p names (a_tree (node (step_of a f l) ts) rest)
@@ -133,19 +143,25 @@ module _ (v : Values) (text : ℕ → List ℕ) where
     shape in_operation act.Name pl many c = more in_operation [] pl c
     shape in_operation act.Number pl many c =
         let r = more in_operation [] pl c in
-        (number_so (λ z. regions_said (a_tree (node z no_tree) (pieces_in v text rest)) ≡ entities_in (regions_in v text rest)) (λ negative magnitude. r.0) (text f), r.1)
+        let said = number_so (λ z. SaysParts z rest) (λ negative magnitude. (r.0, r.1)) (text f) in
+        (said.0, said.1, r.2)
     shape in_operation act.Width pl many c =
         let r = more in_operation [] pl c in
-        (width_so (λ z. regions_said (a_tree (node z no_tree) (pieces_in v text rest)) ≡ entities_in (regions_in v text rest)) (λ bits. r.0) (λ bits. r.0) (λ bits. r.0) (text f), r.1)
+        let said = width_so (λ z. SaysParts z rest) (λ bits. (r.0, r.1)) (λ bits. (r.0, r.1)) (λ bits. (r.0, r.1)) (text f) in
+        (said.0, said.1, r.2)
     shape in_operation (act.BeginType kind) pl many c = more in_operation [] pl.1 c
     shape in_operation (act.BeginAttribute kind) pl many c = more in_operation [] pl.1 c
     shape in_operation act.BeginList pl many c = more in_operation [] pl.1 c
     shape in_operation act.BeginOperands pl many c = more in_operation [] pl.1 c
+    shape in_operation act.BeginSuccessor pl many c =
+        let r = more in_operation [] pl.1 c in
+        (r.0, ap suc r.1, r.2)
     shape in_operation act.BeginRegion pl many c =
         let r = more in_operation [] pl.1 c in
-        (ap suc r.0, (inner in_region pl.0, r.1))
+        (ap suc r.0, r.1, (inner in_region pl.0, r.2))
     shape in_operation _ pl many c = absurd pl
     shape in_operands a pl many c = tt
+    shape in_successor a pl many c = tt
     shape in_region act.Label pl many c = (inner in_header pl.0, more in_region [] pl.1 c)
     shape in_region _ pl many c = absurd pl
     shape in_header act.Argument pl many c = more in_argument [] pl c
@@ -172,37 +188,37 @@ module _ (v : Values) (text : ℕ → List ℕ) where
 
 -- ---- other names
 
-module _ {M N : Type 0} (v : Values) (f : M → N) where
-  number_renamed : (ts : Entities M) → entities_in (all_renamed f ts) ≡ entities_in ts
+module _ {M N : Type 0} (v : Values) (f g : M → N) where
+  number_renamed : (ts : Entities M) → entities_in (all_renamed f g ts) ≡ entities_in ts
   number_renamed no_entity = refl
   number_renamed (an_entity t ts) = ap suc (number_renamed ts)
 
   mutual
-    -- an operation is one whatever values are named by
-    pub operation_renamed : (t : Entity M) → IsOperation v t → IsOperation v (renamed f t)
-    operation_renamed (entity (operation kind results used pieces) ts) h = (types_renamed f results ∙ h.0, h.1 ∙ sym (number_renamed ts), regions_renamed ts h.2)
+    -- an operation is one whatever values and blocks are named by
+    pub operation_renamed : (t : Entity M) → IsOperation v t → IsOperation v (renamed f g t)
+    operation_renamed (entity (operation kind results used successors pieces) ts) h = (types_renamed f results ∙ h.0, h.1 ∙ sym (number_renamed ts), h.2 ∙ sym (length-map successors g), regions_renamed ts h.3)
     operation_renamed (entity a_region ts) h = absurd h
-    operation_renamed (entity (block label arguments) ts) h = absurd h
+    operation_renamed (entity (block named label arguments) ts) h = absurd h
 
-    regions_renamed : (ts : Entities M) → AreRegions v ts → AreRegions v (all_renamed f ts)
+    regions_renamed : (ts : Entities M) → AreRegions v ts → AreRegions v (all_renamed f g ts)
     regions_renamed no_entity h = tt
     regions_renamed (an_entity t ts) h = (region_renamed t h.0, regions_renamed ts h.1)
 
-    region_renamed : (t : Entity M) → IsRegion v t → IsRegion v (renamed f t)
+    region_renamed : (t : Entity M) → IsRegion v t → IsRegion v (renamed f g t)
     region_renamed (entity a_region ts) h = blocks_renamed ts h
-    region_renamed (entity (operation kind results used pieces) ts) h = absurd h
-    region_renamed (entity (block label arguments) ts) h = absurd h
+    region_renamed (entity (operation kind results used successors pieces) ts) h = absurd h
+    region_renamed (entity (block named label arguments) ts) h = absurd h
 
-    blocks_renamed : (ts : Entities M) → AreBlocks v ts → AreBlocks v (all_renamed f ts)
+    blocks_renamed : (ts : Entities M) → AreBlocks v ts → AreBlocks v (all_renamed f g ts)
     blocks_renamed no_entity h = tt
     blocks_renamed (an_entity t ts) h = (block_renamed t h.0, blocks_renamed ts h.1)
 
-    block_renamed : (t : Entity M) → IsBlock v t → IsBlock v (renamed f t)
-    block_renamed (entity (block label arguments) ts) h = operations_renamed ts h
+    block_renamed : (t : Entity M) → IsBlock v t → IsBlock v (renamed f g t)
+    block_renamed (entity (block named label arguments) ts) h = operations_renamed ts h
     block_renamed (entity a_region ts) h = absurd h
-    block_renamed (entity (operation kind results used pieces) ts) h = absurd h
+    block_renamed (entity (operation kind results used successors pieces) ts) h = absurd h
 
-    operations_renamed : (ts : Entities M) → AreOperations v ts → AreOperations v (all_renamed f ts)
+    operations_renamed : (ts : Entities M) → AreOperations v ts → AreOperations v (all_renamed f g ts)
     operations_renamed no_entity h = tt
     operations_renamed (an_entity t ts) h = (operation_renamed t h.0, operations_renamed ts h.1)
 
@@ -220,4 +236,4 @@ says_operation l leads ok cs tree (ts, names, stop, n, es, forest, t, r, reading
     let placed = steps_placed l leads ok cs ts names stop n es forest reading fine whole in
     let counted = forest_counts l.values text es (λ f h. fine f (inr (inr (inl h)))) forest whole in
     let one : AreOperations l.values (an_entity t no_entity) = subst (AreOperations l.values) said (shaped l.values text forest at_root [] placed counted) in
-    subst (IsOperation l.values) (sym same) (operation_renamed l.values _ t one.0)
+    subst (IsOperation l.values) (sym same) (operation_renamed l.values _ _ t one.0)

@@ -3,7 +3,7 @@ use Rattle.std.proofs.Common.{List, [], ◌∷◌, subst}
 use Rattle.ir_names.specs.Tree.{LabelledTree, Trees, node, no_tree, a_tree}
 use Rattle.ir_print.specs.Formats as step
 use Rattle.ir_print.specs.Formats.{Formats, Step}
-use Rattle.ir_print.specs.Pieces.{type_of_kind, attribute_of_kind, list, item, operands, region, name, number, width, ValueTree, Pieces, Values}
+use Rattle.ir_print.specs.Pieces.{type_of_kind, attribute_of_kind, list, item, operands, successor, region, name, number, width, ValueTree, Pieces, Values}
 use Rattle.ir_print.specs.Shown.{Said, Saying, Shows, ShowsAll}
 use Rattle.ir_print.specs.Shapes.{parts_in, IsListOf, IsSaidAt, AreSaidAt, AreMembersSaidAt, IsMemberSaidAt, Fits, FitAll, FitMembers, FitsMember, SaysTypes, SaysAttributes}
 
@@ -12,6 +12,7 @@ list_map (step.list_of member printed text) P Q f h = f (parts_in member) h
 list_map (step.word printed text) P Q f h = absurd h
 list_map step.operands P Q f h = absurd h
 list_map step.operand P Q f h = absurd h
+list_map step.successor P Q f h = absurd h
 list_map step.an_attribute P Q f h = absurd h
 list_map step.a_type P Q f h = absurd h
 list_map step.a_region P Q f h = absurd h
@@ -32,6 +33,7 @@ module _ {K A T : Type 0} (says : Saying K A T) (f : Formats) (v : Values) (type
     shown_fits (node list ts) s u at h = list_map s (λ ss. AreMembersSaidAt ss h.0) (λ ss. FitMembers f v ss ts) (λ ss m. members_fit ts ss h.0 m h.2) (subst (IsSaidAt s) h.1 at)
     shown_fits (node item ts) s u at h = subst (IsSaidAt s) h.1 at
     shown_fits (node (operands n) ts) s u at h = subst (IsSaidAt s) h at
+    shown_fits (node (successor n) ts) s u at h = subst (IsSaidAt s) h at
     shown_fits (node region ts) s u at h = subst (IsSaidAt s) h at
     shown_fits (node (name cs) ts) s u at h = subst (IsSaidAt s) h at
     shown_fits (node (number negative magnitude) ts) s u at h = subst (IsSaidAt s) h at
@@ -56,6 +58,7 @@ module _ {K A T : Type 0} (says : Saying K A T) (f : Formats) (v : Values) (type
     member_fits (node list ts) ss u at h = absurd (subst (IsMemberSaidAt ss) h.1 at)
     member_fits (node item ts) ss u at h = all_fit ts ss h.0 (subst (IsMemberSaidAt ss) h.1 at) h.2
     member_fits (node (operands n) ts) ss u at h = absurd (subst (IsMemberSaidAt ss) h at)
+    member_fits (node (successor n) ts) ss u at h = absurd (subst (IsMemberSaidAt ss) h at)
     member_fits (node region ts) ss u at h = absurd (subst (IsMemberSaidAt ss) h at)
     member_fits (node (name cs) ts) ss u at h = absurd (subst (IsMemberSaidAt ss) h at)
     member_fits (node (number negative magnitude) ts) ss u at h = absurd (subst (IsMemberSaidAt ss) h at)

@@ -17,3 +17,4 @@ pub mod TreeNumbers
 pub mod TreeKinds
 pub mod TreeRegions
 pub mod TreeLabels
+pub mod TreeEdges

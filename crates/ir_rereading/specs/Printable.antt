@@ -1,5 +1,5 @@
 -- The texts of a tree, and which formats are printed so that they can be read.
-use Rattle.std.specs.Prelude.{◌≡◌, ℕ, ◌+◌, ◌^◌, ◌<◌, ◌==◌, ◌&&◌, ◌||◌, not, Bool, true, false, List, [], ◌∷◌, length, nat_lt, Option, if◌then◌else◌, bytes_eq, codes}
+use Rattle.std.specs.Prelude.{◌≡◌, ℕ, ◌^◌, ◌<◌, ◌==◌, ◌&&◌, ◌||◌, not, Bool, true, false, List, [], ◌∷◌, length, nat_lt, Option, if◌then◌else◌, bytes_eq, codes}
 use Rattle.std.specs.List.{list_all}
 use Rattle.ir_names.specs.declared.identifier.Identifier.{Identifier}
 use Rattle.ir_print.specs.Formats as step
@@ -19,24 +19,25 @@ use Rattle.ir_forest.specs.Closed.{AllDistinct, definitions_of, IsLabelled, unla
 
 -- ---- texts
 
--- The label is the name of a block as it is printed.
-pub record HasBlockName (label : List ℕ) : Type 0 where
+-- This is the name of a block as it is printed.
+pub record HasBlockName (named : List ℕ) : Type 0 where
   pub given : Option Identifier
   pub slot : ℕ
   pub version : ℕ
   pub small : (slot < 2 ^ 64) × (version < 2 ^ 64)
-  pub named : label ≡ block_name (label_front given) slot version
+  pub spelt : named ≡ block_name (label_front given) slot version
 
-abbrev pub HasLabelName : {N : Type 0} → EntityHead N → Type 0
-HasLabelName (block label arguments) = HasBlockName label
+-- a block is printed with its name as its label
+abbrev pub HasLabelName : EntityHead (List ℕ) → Type 0
+HasLabelName (block named label arguments) = (label ≡ named) × HasBlockName named
 HasLabelName _ = Unit {0}
 
 abbrev mutual
-  -- each label is a name of a block
-  pub HasBlockNames : {N : Type 0} → Entity N → Type 0
+  -- each label is a name of a block, its own
+  pub HasBlockNames : Entity (List ℕ) → Type 0
   HasBlockNames (entity h ts) = HasLabelName h × HaveBlockNames ts
 
-  pub HaveBlockNames : {N : Type 0} → Entities N → Type 0
+  pub HaveBlockNames : Entities (List ℕ) → Type 0
   HaveBlockNames no_entity = Unit {0}
   HaveBlockNames (an_entity t ts) = HasBlockNames t × HaveBlockNames ts
 
@@ -46,9 +47,11 @@ pub record IsLayoutOf (f : Formats) (tree : Entity ℕ) (text : List ℕ) : Type
   -- the number in the name of each value
   pub number : ℕ → ℕ
   pub small : (n : ℕ) → number n < 2 ^ 64
+  -- the name of each block
+  pub label : ℕ → List ℕ
   -- the tree with the names in the text
   pub printed : Entity (List ℕ)
-  pub named : unlabelled printed ≡ unlabelled (renamed (λ n. value_name (number n)) tree)
+  pub named : unlabelled printed ≡ unlabelled (renamed (λ n. value_name (number n)) label tree)
   pub distinct : AllDistinct (definitions_of printed)
   pub blocks : HasBlockNames printed
   pub labelled : IsLabelled printed
@@ -138,7 +141,7 @@ abbrev pub KeepsDepth : Values → Type 0
 KeepsDepth v = (n d : ℕ) (ps : Pieces) → AreFlat d ps → AreFlat d (v.canonical n ps)
 
 -- What is printed in the language is read as it was printed: its texts are read in order, its formats are printed as their tokens,
--- operations alone say operands and regions, and attributes are printed no deeper than they are read.
+-- operations alone say operands, edges and regions, and attributes are printed no deeper than they are read.
 pub record CanPrint (l : Language) : Type 0 where
   pub leads : PartPositions
   pub ordered : is_ordered leads (rules_of l.formats) ≡ true

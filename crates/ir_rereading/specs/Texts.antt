@@ -83,12 +83,12 @@ IsRefusal l cs (told.Syntax line column) = IsTextFault l cs (told.Syntax line co
 IsRefusal l cs (told.TooDeep line column) = IsTextFault l cs (told.TooDeep line column)
 IsRefusal l cs (told.Scope line column cause) = IsTextFault l cs (told.Scope line column cause)
 
--- The text has no fault and says this tree, in which the number of its definition names a value.
+-- The text has no fault and says this tree, in which the number of its definition names a value, and a block.
 abbrev pub Says : Language → List ℕ → Entity ℕ → Type 0
 Says l cs tree = (ts : List Token) × (names : List ℕ) × (stop : Stop) × (n : ℕ) × (es : List Event) × (forest : Trees ActionSpan) × (t : Entity ℕ) × (r : Resolution)
     × IsReading l cs ts names stop n es × IsNamed (HasFault l cs ts names stop n es) None
     × IsForestOf es forest × (operations_in l.values (token_text cs ts) [] forest ≡ an_entity t no_entity)
-    × IsResolved l.isolated names es r × (tree ≡ renamed (slice_index r.definitions) t)
+    × IsResolved l.isolated names es r × (tree ≡ renamed (slice_index r.definitions) (slice_index r.definitions) t)
 
 -- so many definitions of values stand in what is read of the text
 abbrev pub HasDefinitions : Language → List ℕ → ℕ → Type 0

@@ -11,7 +11,7 @@ use Rattle.ir_program.specs.declared.handles.Operation.{Operation}
 use Rattle.ir_program.specs.declared.handles.Region.{Region}
 use Rattle.ir_program.specs.declared.handles.BasicBlock.{BasicBlock}
 use Rattle.ir_rereading.proofs.layouts.PrintedNames.{value_name_injective}
-use Rattle.text_dialect.specs.Printed.{value_name, IsValueName}
+use Rattle.text_dialect.specs.Printed.{value_name, printed_names}
 use Rattle.text_dialect.specs.Seen.{SeenOperation, SeenBlock, Seen}
 use Rattle.text_dialect.specs.Standing.{HasDefinition, HasTree, HasRegionTree, HasBlockTree, HaveRegionTrees, HaveBlockTrees, HaveTrees}
 use Rattle.text_rereading.proofs.InPlace.{one_place}
@@ -136,7 +136,7 @@ module _ {K A T : Type 0} (says : Saying K A T) (Labels : Ptr BasicBlock → See
     (s : Seen K A T) (places : HasOwnPlaces s) (root : Ptr Operation) (small : AreSmallInside s root) where
   -- the names of results or arguments
   own_names : (ds : List TypedValue) (rs : List (List ℕ × ValueTree)) → DefinesSmall ds
-      → Pairs (HasDefinition says IsValueName s.types) ds rs
+      → Pairs (HasDefinition says (printed_names s) s.types) ds rs
       → (i : ℕ) (n : List ℕ) → slice_get (names_of rs) i ≡ Some n
       → (v : TypedValue) × (slice_get ds i ≡ Some v) × (n ≡ value_name v.value.number) × (v.value.number < 2 ^ 64)
   own_names [] [] fit h i n e = absurd (cc)
@@ -148,7 +148,7 @@ module _ {K A T : Type 0} (says : Saying K A T) (Labels : Ptr BasicBlock → See
 
   result_names : (p : Ptr Operation) (o : SeenOperation K A) (rs : List (List ℕ × ValueTree)) → s.operation p ≡ Some o
       → DefinesSmall o.results
-      → Pairs (HasDefinition says IsValueName s.types) o.results rs
+      → Pairs (HasDefinition says (printed_names s) s.types) o.results rs
       → AreNamesAt s places (OperationNode p) (names_of rs)
   result_names p o rs there fit h i n e =
       let a = own_names o.results rs fit h i n e in
@@ -159,7 +159,7 @@ module _ {K A T : Type 0} (says : Saying K A T) (Labels : Ptr BasicBlock → See
 
   argument_names : (b : Ptr BasicBlock) (v : SeenBlock) (rs : List (List ℕ × ValueTree)) → s.block b ≡ Some v
       → DefinesSmall v.arguments
-      → Pairs (HasDefinition says IsValueName s.types) v.arguments rs
+      → Pairs (HasDefinition says (printed_names s) s.types) v.arguments rs
       → AreNamesAt s places (BlockNode b) (names_of rs)
   argument_names b v rs there fit h i n e =
       let a = own_names v.arguments rs fit h i n e in
@@ -178,19 +178,19 @@ module _ {K A T : Type 0} (says : Saying K A T) (Labels : Ptr BasicBlock → See
   mutual
     -- the definitions of what an operation is printed as have distinct names, of values that are defined inside it
     pub tree_names : (u : Entity (List ℕ)) (p : Ptr Operation) → IsAnywhereIn s (OperationNode root) (OperationNode p)
-        → HasTree says IsValueName Labels s p u
+        → HasTree says (printed_names s) Labels s p u
         → AreNamesIn s places (OperationNode p) (definitions_of u)
-    tree_names (entity (operation kind results used pieces) us) p i h =
+    tree_names (entity (operation kind results used successors pieces) us) p i h =
         let o = h.0 in
         all_names s places (OperationNode p) (names_of results) (all_definitions_of us)
         (result_names p o results h.1 (small (OperationNode p) i o h.1).0 h.2.defines)
         (regions_names us p 0 o.regions (λ k r e. (k, omega arith, (o, h.1, e))) i h.3)
     tree_names (entity a_region us) p i h = absurd h
-    tree_names (entity (block label arguments) us) p i h = absurd h
+    tree_names (entity (block named label arguments) us) p i h = absurd h
 
     regions_names : (us : Entities (List ℕ)) (p : Ptr Operation) (m : ℕ) (rs : List (Ptr Region))
         → AreAt RegionNode (OperationNode p) m rs → IsAnywhereIn s (OperationNode root) (OperationNode p)
-        → HaveRegionTrees says IsValueName Labels s rs us
+        → HaveRegionTrees says (printed_names s) Labels s rs us
         → AreNamesFrom s places (OperationNode p) m (all_definitions_of us)
     regions_names no_entity p m rs at i h = no_names s places (OperationNode p) m
     regions_names (an_entity u us) p m [] at i h = absurd h
@@ -202,17 +202,17 @@ module _ {K A T : Type 0} (says : Saying K A T) (Labels : Ptr BasicBlock → See
         (regions_names us p (suc m) rs (others_at RegionNode (OperationNode p) m r rs at) i h.1)
 
     region_names : (u : Entity (List ℕ)) (r : Ptr Region) → IsAnywhereIn s (OperationNode root) (RegionNode r)
-        → HasRegionTree says IsValueName Labels s r u
+        → HasRegionTree says (printed_names s) Labels s r u
         → AreNamesIn s places (RegionNode r) (definitions_of u)
     region_names (entity a_region us) r i h =
         all_names s places (RegionNode r) [] (all_definitions_of us) (λ j n e. absurd (cc))
         (blocks_names us r 0 h.0 (λ k b e. (k, omega arith, (h.0, h.1, e))) i h.2)
-    region_names (entity (operation kind results used pieces) us) r i h = absurd h
-    region_names (entity (block label arguments) us) r i h = absurd h
+    region_names (entity (operation kind results used successors pieces) us) r i h = absurd h
+    region_names (entity (block named label arguments) us) r i h = absurd h
 
     blocks_names : (us : Entities (List ℕ)) (r : Ptr Region) (m : ℕ) (bs : List (Ptr BasicBlock))
         → AreAt BlockNode (RegionNode r) m bs → IsAnywhereIn s (OperationNode root) (RegionNode r)
-        → HaveBlockTrees says IsValueName Labels s bs us
+        → HaveBlockTrees says (printed_names s) Labels s bs us
         → AreNamesFrom s places (RegionNode r) m (all_definitions_of us)
     blocks_names no_entity r m bs at i h = no_names s places (RegionNode r) m
     blocks_names (an_entity u us) r m [] at i h = absurd h
@@ -224,19 +224,19 @@ module _ {K A T : Type 0} (says : Saying K A T) (Labels : Ptr BasicBlock → See
         (blocks_names us r (suc m) bs (others_at BlockNode (RegionNode r) m b bs at) i h.1)
 
     block_names : (u : Entity (List ℕ)) (b : Ptr BasicBlock) → IsAnywhereIn s (OperationNode root) (BlockNode b)
-        → HasBlockTree says IsValueName Labels s b u
+        → HasBlockTree says (printed_names s) Labels s b u
         → AreNamesIn s places (BlockNode b) (definitions_of u)
-    block_names (entity (block label arguments) us) b i h =
+    block_names (entity (block named label arguments) us) b i h =
         let v = h.0 in
         all_names s places (BlockNode b) (names_of arguments) (all_definitions_of us)
-        (argument_names b v arguments h.1 (small (BlockNode b) i v h.1).2 h.3)
-        (trees_names us b 0 v.operations (λ k p e. (k, omega arith, (v, h.1, e))) i h.4)
-    block_names (entity (operation kind results used pieces) us) b i h = absurd h
+        (argument_names b v arguments h.1 (small (BlockNode b) i v h.1).2 h.4)
+        (trees_names us b 0 v.operations (λ k p e. (k, omega arith, (v, h.1, e))) i h.5)
+    block_names (entity (operation kind results used successors pieces) us) b i h = absurd h
     block_names (entity a_region us) b i h = absurd h
 
     trees_names : (us : Entities (List ℕ)) (b : Ptr BasicBlock) (m : ℕ) (ps : List (Ptr Operation))
         → AreAt OperationNode (BlockNode b) m ps → IsAnywhereIn s (OperationNode root) (BlockNode b)
-        → HaveTrees says IsValueName Labels s ps us → AreNamesFrom s places (BlockNode b) m (all_definitions_of us)
+        → HaveTrees says (printed_names s) Labels s ps us → AreNamesFrom s places (BlockNode b) m (all_definitions_of us)
     trees_names no_entity b m ps at i h = no_names s places (BlockNode b) m
     trees_names (an_entity u us) b m [] at i h = absurd h
     trees_names (an_entity u us) b m (p ∷ ps) at i h =

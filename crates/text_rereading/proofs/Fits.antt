@@ -11,16 +11,15 @@ use Rattle.ir_program.specs.declared.handles.Ptr.{Ptr}
 use Rattle.ir_program.specs.declared.handles.Operation.{Operation}
 use Rattle.ir_program.specs.declared.handles.Region.{Region}
 use Rattle.ir_program.specs.declared.handles.BasicBlock.{BasicBlock}
-use Rattle.ir_program.specs.declared.handles.Value.{Value}
 use Rattle.ir_rereading.proofs.SaidFits.{shown_fits, all_fit}
 use Rattle.ir_rereading.proofs.trees.TreeAlike.{pairs_length}
 use Rattle.text_dialect.specs.Seen.{SeenBlock, Seen, types_of}
-use Rattle.text_dialect.specs.Standing.{HasDefinition, HasTree, HasRegionTree, HasBlockTree, HaveRegionTrees, HaveBlockTrees, HaveTrees}
+use Rattle.text_dialect.specs.Standing.{Naming, HasDefinition, HasTree, HasRegionTree, HasBlockTree, HaveRegionTrees, HaveBlockTrees, HaveTrees}
 
 module _ {K A T N : Type 0} (says : Saying K A T) (f : Formats) (v : Values) (say_types : SaysTypes says f v)
     (say_attributes : SaysAttributes says f v) (say_operations : SaysOperations says f v)
-    (Naming : Value → N → Type 0) (Labels : Ptr BasicBlock → SeenBlock → List ℕ → Type 0) (s : Seen K A T) where
-  arguments_fit : (ds : List TypedValue) (xs : List (N × ValueTree)) → Pairs (HasDefinition says Naming s.types) ds xs
+    (Named : Naming N) (Labels : Ptr BasicBlock → SeenBlock → List ℕ → Type 0) (s : Seen K A T) where
+  arguments_fit : (ds : List TypedValue) (xs : List (N × ValueTree)) → Pairs (HasDefinition says Named s.types) ds xs
       → FitArguments f v xs
   arguments_fit [] [] h = tt
   arguments_fit [] (x ∷ xs) h = absurd h
@@ -33,8 +32,8 @@ module _ {K A T N : Type 0} (says : Saying K A T) (f : Formats) (v : Values) (sa
 
   mutual
     -- the tree of an operation fits
-    pub tree_fits : (t : Entity N) (p : Ptr Operation) → HasTree says Naming Labels s p t → FitsTree f v t
-    tree_fits (entity (operation kind results used pieces) ts) p h =
+    pub tree_fits : (t : Entity N) (p : Ptr Operation) → HasTree says Named Labels s p t → FitsTree f v t
+    tree_fits (entity (operation kind results used successors pieces) ts) p h =
         let o = h.0 in
         let head = h.2 in
         let said =
@@ -46,37 +45,37 @@ module _ {K A T N : Type 0} (says : Saying K A T) (f : Formats) (v : Values) (sa
             all_fit says f v s.types say_types say_attributes pieces
                 (parts_in said.kind.format) head.said said.shaped head.shown,
             said.read,
-            said.operands ∙ pairs_length Naming o.operands used head.mentions,
+            said.operands ∙ pairs_length Named.value o.operands used head.mentions,
           ),
           regions_fit ts o.regions h.3,
         )
     tree_fits (entity a_region ts) p h = absurd h
-    tree_fits (entity (block label arguments) ts) p h = absurd h
+    tree_fits (entity (block named label arguments) ts) p h = absurd h
 
-    regions_fit : (ts : Entities N) (rs : List (Ptr Region)) → HaveRegionTrees says Naming Labels s rs ts
+    regions_fit : (ts : Entities N) (rs : List (Ptr Region)) → HaveRegionTrees says Named Labels s rs ts
         → FitTrees f v ts
     regions_fit no_entity rs h = tt
     regions_fit (an_entity t ts) [] h = absurd h
     regions_fit (an_entity t ts) (r ∷ rs) h = (region_fits t r h.0, regions_fit ts rs h.1)
 
-    region_fits : (t : Entity N) (r : Ptr Region) → HasRegionTree says Naming Labels s r t → FitsTree f v t
+    region_fits : (t : Entity N) (r : Ptr Region) → HasRegionTree says Named Labels s r t → FitsTree f v t
     region_fits (entity a_region ts) r h = (tt, blocks_fit ts h.0 h.2)
-    region_fits (entity (operation kind results used pieces) ts) r h = absurd h
-    region_fits (entity (block label arguments) ts) r h = absurd h
+    region_fits (entity (operation kind results used successors pieces) ts) r h = absurd h
+    region_fits (entity (block named label arguments) ts) r h = absurd h
 
-    blocks_fit : (ts : Entities N) (bs : List (Ptr BasicBlock)) → HaveBlockTrees says Naming Labels s bs ts
+    blocks_fit : (ts : Entities N) (bs : List (Ptr BasicBlock)) → HaveBlockTrees says Named Labels s bs ts
         → FitTrees f v ts
     blocks_fit no_entity bs h = tt
     blocks_fit (an_entity t ts) [] h = absurd h
     blocks_fit (an_entity t ts) (b ∷ bs) h = (block_fits t b h.0, blocks_fit ts bs h.1)
 
-    block_fits : (t : Entity N) (b : Ptr BasicBlock) → HasBlockTree says Naming Labels s b t → FitsTree f v t
-    block_fits (entity (block label arguments) ts) b h =
-        (arguments_fit h.0.arguments arguments h.3, operations_fit ts h.0.operations h.4)
-    block_fits (entity (operation kind results used pieces) ts) b h = absurd h
+    block_fits : (t : Entity N) (b : Ptr BasicBlock) → HasBlockTree says Named Labels s b t → FitsTree f v t
+    block_fits (entity (block named label arguments) ts) b h =
+        (arguments_fit h.0.arguments arguments h.4, operations_fit ts h.0.operations h.5)
+    block_fits (entity (operation kind results used successors pieces) ts) b h = absurd h
     block_fits (entity a_region ts) b h = absurd h
 
-    operations_fit : (ts : Entities N) (ps : List (Ptr Operation)) → HaveTrees says Naming Labels s ps ts
+    operations_fit : (ts : Entities N) (ps : List (Ptr Operation)) → HaveTrees says Named Labels s ps ts
         → FitTrees f v ts
     operations_fit no_entity ps h = tt
     operations_fit (an_entity t ts) [] h = absurd h

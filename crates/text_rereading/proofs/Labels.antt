@@ -1,5 +1,5 @@
 -- The labels of what is printed are names of blocks, distinct in each region.
-use Rattle.std.proofs.Common.{◌≡◌, ℕ, zero, suc, List, [], ◌∷◌, Some, slice_get, refl, sym, subst, ◌∙◌}
+use Rattle.std.proofs.Common.{◌≡◌, ℕ, zero, suc, List, [], ◌∷◌, Some, slice_get, refl, sym, ap, subst, ◌∙◌}
 use Rattle.ir_forest.specs.Closed.{AllDistinct, labels_of, IsLabelled, AreLabelled}
 use Rattle.ir_print.specs.Pieces.{operation, a_region, block, Entity, entity, Entities, no_entity, an_entity}
 use Rattle.ir_print.specs.Shown.{Saying}
@@ -10,9 +10,8 @@ use Rattle.ir_program.specs.declared.handles.Ptr.{Ptr}
 use Rattle.ir_program.specs.declared.handles.Operation.{Operation}
 use Rattle.ir_program.specs.declared.handles.Region.{Region}
 use Rattle.ir_program.specs.declared.handles.BasicBlock.{BasicBlock}
-use Rattle.ir_program.specs.declared.handles.Value.{Value}
 use Rattle.ir_rereading.specs.Printable.{HasBlockName, HasBlockNames, HaveBlockNames}
-use Rattle.text_dialect.specs.Printed.{label_front, block_name, IsBlockName}
+use Rattle.text_dialect.specs.Printed.{label_front, block_name, IsBlockName, printed_names}
 use Rattle.text_dialect.specs.Seen.{SeenBlock, Seen}
 use Rattle.text_dialect.specs.Standing.{HasTree, HasRegionTree, HasBlockTree, HaveRegionTrees, HaveBlockTrees, HaveTrees}
 use Rattle.text_rereading.proofs.BlockNames.{one_block}
@@ -21,9 +20,16 @@ use Rattle.text_rereading.specs.Places.{IsDirectlyIn, IsAnywhereIn, within, AreS
 none_distinct : AllDistinct {N = List ℕ} []
 none_distinct i j x e k = absurd (cc)
 
-module _ {K A T : Type 0} (says : Saying K A T) (Naming : Value → List ℕ → Type 0) (s : Seen K A T)
+module _ {K A T : Type 0} (says : Saying K A T) (s : Seen K A T)
     (places : HasOwnPlaces s)
     (root : Ptr Operation) (small : AreSmallInside s root) where
+  -- a block is named by its label
+  own_name : (b : Ptr BasicBlock) (v : SeenBlock) (named label : List ℕ) → s.block b ≡ Some v → IsBlockName b v label
+      → (printed_names s).block b named → named ≡ label
+  own_name b v named label there labelled name =
+      let same : name.0 ≡ v = (let e : Some name.0 ≡ Some v = sym name.1 ∙ there in cc) in
+      name.2 ∙ ap (λ (w : SeenBlock). block_name (label_front w.label) b.key.slot b.key.version) same ∙ sym labelled
+
   -- ---- labels of a region
 
   -- a block of the list, and its name, at a place
@@ -34,22 +40,22 @@ module _ {K A T : Type 0} (says : Saying K A T) (Naming : Value → List ℕ →
     there : s.block at_block ≡ Some view
     name : x ≡ block_name (label_front view.label) at_block.key.slot at_block.key.version
 
-  label_at : (us : Entities (List ℕ)) (bs : List (Ptr BasicBlock)) → HaveBlockTrees says Naming IsBlockName s bs us
+  label_at : (us : Entities (List ℕ)) (bs : List (Ptr BasicBlock)) → HaveBlockTrees says (printed_names s) IsBlockName s bs us
       → (i : ℕ) (x : List ℕ) → slice_get (labels_of us) i ≡ Some x → BlockAt bs i x
   label_at no_entity bs h i x e = absurd (cc)
   label_at (an_entity u us) [] h i x e = absurd h
-  label_at (an_entity (entity (block label arguments) ts) us) (b ∷ bs) h zero x e =
+  label_at (an_entity (entity (block named label arguments) ts) us) (b ∷ bs) h zero x e =
       record
       { at_block = b; listed = refl; view = h.0.0; there = h.0.1; name = (let is : label ≡ x = cc in sym is ∙ h.0.2) }
-  label_at (an_entity (entity (block label arguments) ts) us) (b ∷ bs) h (suc i) x e =
+  label_at (an_entity (entity (block named label arguments) ts) us) (b ∷ bs) h (suc i) x e =
       let m = label_at us bs h.1 i x e in
       record { at_block = m.at_block; listed = m.listed; view = m.view; there = m.there; name = m.name }
-  label_at (an_entity (entity (operation kind results used pieces) ts) us) (b ∷ bs) h i x e = absurd h.0
+  label_at (an_entity (entity (operation kind results used successors pieces) ts) us) (b ∷ bs) h i x e = absurd h.0
   label_at (an_entity (entity a_region ts) us) (b ∷ bs) h i x e = absurd h.0
 
   distinct_labels : (us : Entities (List ℕ)) (r : Ptr Region) (bs : List (Ptr BasicBlock)) → s.region r ≡ Some bs
       → IsAnywhereIn s (OperationNode root) (RegionNode r)
-      → HaveBlockTrees says Naming IsBlockName s bs us → AllDistinct (labels_of us)
+      → HaveBlockTrees says (printed_names s) IsBlockName s bs us → AllDistinct (labels_of us)
   distinct_labels us r bs there inside h i j x e k =
       let a = label_at us bs h i x e in
       let c = label_at us bs h j x k in
@@ -69,36 +75,36 @@ module _ {K A T : Type 0} (says : Saying K A T) (Naming : Value → List ℕ →
       (subst (λ b. IsDirectlyIn s (BlockNode b) (RegionNode r) i) same one) two).1
 
   no_labels_regions : (us : Entities (List ℕ)) (rs : List (Ptr Region))
-      → HaveRegionTrees says Naming IsBlockName s rs us → labels_of us ≡ []
+      → HaveRegionTrees says (printed_names s) IsBlockName s rs us → labels_of us ≡ []
   no_labels_regions no_entity rs h = refl
   no_labels_regions (an_entity u us) [] h = absurd h
   no_labels_regions (an_entity (entity a_region ts) us) (r ∷ rs) h = no_labels_regions us rs h.1
-  no_labels_regions (an_entity (entity (operation kind results used pieces) ts) us) (r ∷ rs) h = absurd h.0
-  no_labels_regions (an_entity (entity (block label arguments) ts) us) (r ∷ rs) h = absurd h.0
+  no_labels_regions (an_entity (entity (operation kind results used successors pieces) ts) us) (r ∷ rs) h = absurd h.0
+  no_labels_regions (an_entity (entity (block named label arguments) ts) us) (r ∷ rs) h = absurd h.0
 
-  no_labels_trees : (us : Entities (List ℕ)) (ps : List (Ptr Operation)) → HaveTrees says Naming IsBlockName s ps us
+  no_labels_trees : (us : Entities (List ℕ)) (ps : List (Ptr Operation)) → HaveTrees says (printed_names s) IsBlockName s ps us
       → labels_of us ≡ []
   no_labels_trees no_entity ps h = refl
   no_labels_trees (an_entity u us) [] h = absurd h
-  no_labels_trees (an_entity (entity (operation kind results used pieces) ts) us) (p ∷ ps) h =
+  no_labels_trees (an_entity (entity (operation kind results used successors pieces) ts) us) (p ∷ ps) h =
       no_labels_trees us ps h.1
   no_labels_trees (an_entity (entity a_region ts) us) (p ∷ ps) h = absurd h.0
-  no_labels_trees (an_entity (entity (block label arguments) ts) us) (p ∷ ps) h = absurd h.0
+  no_labels_trees (an_entity (entity (block named label arguments) ts) us) (p ∷ ps) h = absurd h.0
 
   mutual
     -- the labels of what an operation is printed as are names of blocks, distinct in each region
     pub labelled_tree : (u : Entity (List ℕ)) (p : Ptr Operation) → IsAnywhereIn s (OperationNode root) (OperationNode p)
-        → HasTree says Naming IsBlockName s p u → HasBlockNames u × IsLabelled u
-    labelled_tree (entity (operation kind results used pieces) us) p i h =
+        → HasTree says (printed_names s) IsBlockName s p u → HasBlockNames u × IsLabelled u
+    labelled_tree (entity (operation kind results used successors pieces) us) p i h =
         let rest =
         labelled_regions us h.0.regions (λ k r e. within (RegionNode r) (OperationNode p) k (h.0, h.1, e) i) h.3 in
         ((tt, rest.0), (subst AllDistinct (sym (no_labels_regions us h.0.regions h.3)) none_distinct, rest.1))
     labelled_tree (entity a_region us) p i h = absurd h
-    labelled_tree (entity (block label arguments) us) p i h = absurd h
+    labelled_tree (entity (block named label arguments) us) p i h = absurd h
 
     labelled_regions : (us : Entities (List ℕ)) (rs : List (Ptr Region))
         → ((k : ℕ) (r : Ptr Region) → slice_get rs k ≡ Some r → IsAnywhereIn s (OperationNode root) (RegionNode r))
-        → HaveRegionTrees says Naming IsBlockName s rs us → HaveBlockNames us × AreLabelled us
+        → HaveRegionTrees says (printed_names s) IsBlockName s rs us → HaveBlockNames us × AreLabelled us
     labelled_regions no_entity rs inside h = (tt, tt)
     labelled_regions (an_entity u us) [] inside h = absurd h
     labelled_regions (an_entity u us) (r ∷ rs) inside h =
@@ -107,16 +113,16 @@ module _ {K A T : Type 0} (says : Saying K A T) (Naming : Value → List ℕ →
         ((a.0, b.0), (a.1, b.1))
 
     labelled_region : (u : Entity (List ℕ)) (r : Ptr Region) → IsAnywhereIn s (OperationNode root) (RegionNode r)
-        → HasRegionTree says Naming IsBlockName s r u → HasBlockNames u × IsLabelled u
+        → HasRegionTree says (printed_names s) IsBlockName s r u → HasBlockNames u × IsLabelled u
     labelled_region (entity a_region us) r i h =
         let rest = labelled_blocks us h.0 (λ k b e. within (BlockNode b) (RegionNode r) k (h.0, h.1, e) i) h.2 in
         ((tt, rest.0), (distinct_labels us r h.0 h.1 i h.2, rest.1))
-    labelled_region (entity (operation kind results used pieces) us) r i h = absurd h
-    labelled_region (entity (block label arguments) us) r i h = absurd h
+    labelled_region (entity (operation kind results used successors pieces) us) r i h = absurd h
+    labelled_region (entity (block named label arguments) us) r i h = absurd h
 
     labelled_blocks : (us : Entities (List ℕ)) (bs : List (Ptr BasicBlock))
         → ((k : ℕ) (b : Ptr BasicBlock) → slice_get bs k ≡ Some b → IsAnywhereIn s (OperationNode root) (BlockNode b))
-        → HaveBlockTrees says Naming IsBlockName s bs us → HaveBlockNames us × AreLabelled us
+        → HaveBlockTrees says (printed_names s) IsBlockName s bs us → HaveBlockNames us × AreLabelled us
     labelled_blocks no_entity bs inside h = (tt, tt)
     labelled_blocks (an_entity u us) [] inside h = absurd h
     labelled_blocks (an_entity u us) (b ∷ bs) inside h =
@@ -125,21 +131,24 @@ module _ {K A T : Type 0} (says : Saying K A T) (Naming : Value → List ℕ →
         ((a.0, c.0), (a.1, c.1))
 
     labelled_block : (u : Entity (List ℕ)) (b : Ptr BasicBlock) → IsAnywhereIn s (OperationNode root) (BlockNode b)
-        → HasBlockTree says Naming IsBlockName s b u → HasBlockNames u × IsLabelled u
-    labelled_block (entity (block label arguments) us) b i h =
+        → HasBlockTree says (printed_names s) IsBlockName s b u → HasBlockNames u × IsLabelled u
+    labelled_block (entity (block named label arguments) us) b i h =
         let v = h.0 in
         let fit = small (BlockNode b) i v h.1 in
         let rest =
-        labelled_trees us v.operations (λ k p e. within (OperationNode p) (BlockNode b) k (v, h.1, e) i) h.4 in
-        let named : HasBlockName label =
-        record { given = v.label; slot = b.key.slot; version = b.key.version; small = (fit.0, fit.1); named = h.2 } in
-        ((named, rest.0), (subst AllDistinct (sym (no_labels_trees us v.operations h.4)) none_distinct, rest.1))
-    labelled_block (entity (operation kind results used pieces) us) b i h = absurd h
+        labelled_trees us v.operations (λ k p e. within (OperationNode p) (BlockNode b) k (v, h.1, e) i) h.5 in
+        let same : named ≡ label = own_name b v named label h.1 h.2 h.3 in
+        let own : HasBlockName label =
+        record { given = v.label; slot = b.key.slot; version = b.key.version; small = (fit.0, fit.1); spelt = h.2 } in (
+          ((sym same, subst HasBlockName (sym same) own), rest.0),
+          (subst AllDistinct (sym (no_labels_trees us v.operations h.5)) none_distinct, rest.1),
+        )
+    labelled_block (entity (operation kind results used successors pieces) us) b i h = absurd h
     labelled_block (entity a_region us) b i h = absurd h
 
     labelled_trees : (us : Entities (List ℕ)) (ps : List (Ptr Operation))
         → ((k : ℕ) (p : Ptr Operation) → slice_get ps k ≡ Some p → IsAnywhereIn s (OperationNode root) (OperationNode p))
-        → HaveTrees says Naming IsBlockName s ps us → HaveBlockNames us × AreLabelled us
+        → HaveTrees says (printed_names s) IsBlockName s ps us → HaveBlockNames us × AreLabelled us
     labelled_trees no_entity ps inside h = (tt, tt)
     labelled_trees (an_entity u us) [] inside h = absurd h
     labelled_trees (an_entity u us) (p ∷ ps) inside h =

@@ -11,35 +11,35 @@ use Rattle.ir_print.specs.Shapes.{SaysTypes, SaysAttributes, SaysOperations}
 use Rattle.ir_print.specs.Shown.{Saying}
 use Rattle.ir_program.specs.declared.handles.Ptr.{Ptr}
 use Rattle.ir_program.specs.declared.handles.Operation.{Operation}
-use Rattle.ir_program.specs.declared.handles.Value.{Value}
 use Rattle.ir_rereading.proofs.layouts.LayoutPlain.{printed_bare}
 use Rattle.ir_rereading.proofs.PrintAndRead.{text_again, text_bytes}
 use Rattle.ir_rereading.proofs.ReadClosed.{read_closed}
 use Rattle.ir_rereading.proofs.trees.TreeClosed.{closed_renamed}
 use Rattle.ir_rereading.specs.Printable.{CanPrint, IsLayoutOf}
 use Rattle.ir_rereading.specs.Texts.{Says}
-use Rattle.text_dialect.specs.Printed.{IsValueName, IsBlockName}
+use Rattle.text_dialect.specs.Printed.{IsBlockName}
 use Rattle.text_dialect.specs.Seen.{Seen}
-use Rattle.text_dialect.specs.Standing.{HasOwnLabel, StandsForTexts}
+use Rattle.text_dialect.specs.Standing.{Naming, HasOwnLabel, StandsForTexts}
 use Rattle.text_rereading.proofs.Definitions.{tree_names}
 use Rattle.text_rereading.proofs.Fits.{tree_fits}
 use Rattle.text_rereading.proofs.Labels.{labelled_tree}
-use Rattle.text_rereading.proofs.NamedTrees.{number_at, number_small, name_at, named_tree}
+use Rattle.text_rereading.proofs.NamedTrees.{number_at, number_small, name_at, block_name_at, named_tree}
 use Rattle.text_rereading.specs.Places.{itself, AreSmallInside, HasOwnPlaces}
-use Rattle.text_rereading.specs.Rereading.{Named, IsPrinted, IsPrintedAs}
+use Rattle.text_rereading.specs.Rereading.{Numbering, Named, IsPrinted, IsPrintedAs}
 
 -- The tree of a text, for which an operation stands, is closed, and its definitions are numbered.
 pub stood_closed : {K A T : Type 0} (l : Language) → CanPrint l → (says : Saying K A T)
     → SaysTypes says l.formats l.values → SaysAttributes says l.formats l.values
     → SaysOperations says l.formats l.values
-    → (Naming : Value → ℕ → Type 0) (s : Seen K A T) (p : Ptr Operation) (cs : List ℕ) (tree : Entity ℕ)
-    → Says l cs tree → StandsForTexts says Naming s p tree → IsClosedTree l tree × IsNumbered tree
-stood_closed l can says types attributes operations Naming s p cs tree said stands =
+    → (Named : Naming ℕ) (s : Seen K A T) (p : Ptr Operation) (cs : List ℕ) (tree : Entity ℕ)
+    → Says l cs tree → StandsForTexts says Named s p tree → IsClosedTree l tree × IsNumbered tree
+stood_closed l can says types attributes operations Named s p cs tree said stands =
     let known = read_closed l can.leads can.ordered can.depth can.bare cs tree said in (
       record {
         operation = known.operation;
-        fits = tree_fits says l.formats l.values types attributes operations Naming HasOwnLabel s tree p stands;
+        fits = tree_fits says l.formats l.values types attributes operations Named HasOwnLabel s tree p stands;
         scoped = known.scoped;
+        edges = known.edges;
         shallow = known.shallow;
         labelled = known.labelled;
         bare = known.bare;
@@ -49,22 +49,25 @@ stood_closed l can says types attributes operations Naming s p cs tree said stan
 
 -- An operation that stands for a closed tree is printed as a text of it.
 pub stood_printed : {K A T : Type 0} (l : Language) (says : Saying K A T) (s : Seen K A T) (p : Ptr Operation)
-    (values : List Value) (tree : Entity ℕ) → HasOwnPlaces s → StandsForTexts says (Named values) s p tree
+    (numbering : Numbering) (tree : Entity ℕ) → HasOwnPlaces s → StandsForTexts says (Named numbering) s p tree
     → AreSmallInside s p → IsClosedTree l tree → IsPrintedAs l says s p tree
-stood_printed l says s p values tree places stands small closed =
-    let named = named_tree says HasOwnLabel s values p small tree p itself stands in
-    let labels = labelled_tree says IsValueName s places p small named.0 p itself named.1 in
-    let same : unlabelled named.0 ≡ unlabelled (renamed (name_at values) tree) = named.2 in
+stood_printed l says s p numbering tree places stands small closed =
+    let named = named_tree says HasOwnLabel s numbering p small tree p itself closed.edges stands in
+    let labels = labelled_tree says s places p small named.0 p itself named.1 in
+    let name = name_at numbering.values in
+    let label = block_name_at s numbering.blocks in
+    let same : unlabelled named.0 ≡ unlabelled (renamed name label tree) = named.2 in
     let there =
-    closed_renamed (name_at values) l tree named.0 closed same labels.1
-    (printed_bare (name_at values) named.0 tree same closed.bare) in
+    closed_renamed name label l tree named.0 closed same labels.1
+    (printed_bare name label named.0 tree same closed.bare) in
     record {
       printed = named.0;
       prints = named.1;
       shallow = there.shallow;
       laid_out = record {
-        number = number_at values;
-        small = number_small values;
+        number = number_at numbering.values;
+        small = number_small numbering.values;
+        label = label;
         printed = named.0;
         named = same;
         distinct = (tree_names says IsBlockName s places p small named.0 p itself named.1).0;
@@ -75,14 +78,14 @@ stood_printed l says s p values tree places stands small closed =
     }
 
 module _ {K A T : Type 0} (l : Language) (says : Saying K A T) (s : Seen K A T) (p : Ptr Operation)
-    (values : List Value) (tree : Entity ℕ) (text : List ℕ)
-    (places : HasOwnPlaces s) (stands : StandsForTexts says (Named values) s p tree) (small : AreSmallInside s p)
+    (numbering : Numbering) (tree : Entity ℕ) (text : List ℕ)
+    (places : HasOwnPlaces s) (stands : StandsForTexts says (Named numbering) s p tree) (small : AreSmallInside s p)
     (closed : IsClosedTree l tree)
     (is_printed : IsPrinted l.formats says s p text) where
   -- What is printed is a layout of the tree.
   pub printed_layout : IsLayoutOf l.formats tree text
   printed_layout =
-      let print = stood_printed l says s p values tree places stands small closed in
+      let print = stood_printed l says s p numbering tree places stands small closed in
       subst (IsLayoutOf l.formats tree) (sym (is_printed print.printed print.prints print.shallow)) print.laid_out
 
   module _ (can : CanPrint l) where

@@ -7,14 +7,21 @@ use Rattle.ir_print.specs.Pieces.{Entity}
 use Rattle.ir_print.specs.Shown.{Saying}
 use Rattle.ir_program.specs.declared.handles.Ptr.{Ptr}
 use Rattle.ir_program.specs.declared.handles.Operation.{Operation}
+use Rattle.ir_program.specs.declared.handles.BasicBlock.{BasicBlock}
 use Rattle.ir_program.specs.declared.handles.Value.{Value}
 use Rattle.ir_rereading.specs.Printable.{IsLayoutOf}
 use Rattle.text_dialect.specs.Printed.{PrintsAs}
 use Rattle.text_dialect.specs.Seen.{Seen}
+use Rattle.text_dialect.specs.Standing.{Naming}
 
--- the definition with this number is the value
-abbrev pub Named : List Value → Value → ℕ → Type 0
-Named values v n = slice_get values n ≡ Some v
+-- the values and the blocks that numbers name, each in the order of the text
+pub record Numbering : Type 0 where
+  pub values : List Value
+  pub blocks : List (Ptr BasicBlock)
+
+-- the definition with this number is the value, or the block
+abbrev pub Named : Numbering → Naming ℕ
+Named m = record { value = λ v n. slice_get m.values n ≡ Some v; block = λ b n. slice_get m.blocks n ≡ Some b }
 
 -- The text is what is printed of the operation: the layout of each tree that it is printed as, where at most 64
 -- regions,

@@ -7,13 +7,12 @@ ghost use Rattle.ir_grammar.specs.declared.grammar.Grammar.{Grammar};
 ghost use Rattle.ir_print.specs.Pieces.{Entity};
 ghost use Rattle.ir_program.specs.declared.handles.Operation.{Operation};
 ghost use Rattle.ir_program.specs.declared.handles.Ptr.{Ptr};
-ghost use Rattle.ir_program.specs.declared.handles.Value.{Value};
 ghost use Rattle.ir_rereading.specs.Printable.{CanPrint, IsLayoutOf};
 ghost use Rattle.ir_rereading.specs.Texts.{Says};
 ghost use Rattle.text_dialect.specs.Seen.{Seen, seen};
 ghost use Rattle.text_dialect.specs.Standing.{StandsForTexts};
 ghost use Rattle.text_rereading.specs.Places.{HasOwnPlaces, AreSmallInside};
-ghost use Rattle.text_rereading.specs.Rereading.{Named, IsPrinted, IsPrintedAs};
+ghost use Rattle.text_rereading.specs.Rereading.{Numbering, Named, IsPrinted, IsPrintedAs};
 
 use ir_context::Context;
 use ir_types::DialectTables;
@@ -29,25 +28,25 @@ pub fn know_places<D: DialectTables>(ctx: &Context<D>)
     program.know_values();
 }
 
-/// The tree of a text, for which an operation of a context stands, is closed, and its definitions are numbered in the
-/// order of the text.
+/// The tree of a text, for which an operation of a context stands, is closed, and its definitions and its blocks are
+/// numbered in the order of the text.
 pub fn trees_of_texts_are_closed<D: TextDialect>()
     ensures { (l : Language) → CanPrint l → l.formats ≡ D.formats → l.values ≡ D.values
-        → (values : List Value) (s : Seen D.OpKind D.Attr D.TypeKey) (root : Ptr Operation)
+        → (numbering : Numbering) (s : Seen D.OpKind D.Attr D.TypeKey) (root : Ptr Operation)
         → (cs : List ℕ) (tree : Entity ℕ)
-        → Says l cs tree → StandsForTexts D.says (Named values) s root tree → IsClosedTree l tree × IsNumbered tree }
+        → Says l cs tree → StandsForTexts D.says (Named numbering) s root tree → IsClosedTree l tree × IsNumbered tree }
 {}
 
 /// An operation that stands for a closed tree is printed, where its numbers fit in 64 bits; and what is printed of it
 /// is a layout of the tree.
 pub fn printed_trees_are_layouts<D: TextDialect>()
     ensures printed { (l : Language) → l.formats ≡ D.formats → (s : Seen D.OpKind D.Attr D.TypeKey) → HasOwnPlaces s
-        → (values : List Value) (root : Ptr Operation) (tree : Entity ℕ)
-        → StandsForTexts D.says (Named values) s root tree → AreSmallInside s root → IsClosedTree l tree
+        → (numbering : Numbering) (root : Ptr Operation) (tree : Entity ℕ)
+        → StandsForTexts D.says (Named numbering) s root tree → AreSmallInside s root → IsClosedTree l tree
         → IsPrintedAs l D.says s root tree }
     ensures layouts { (l : Language) → l.formats ≡ D.formats → (s : Seen D.OpKind D.Attr D.TypeKey) → HasOwnPlaces s
-        → (values : List Value) (root : Ptr Operation) (tree : Entity ℕ) (text : List ℕ)
-        → StandsForTexts D.says (Named values) s root tree → AreSmallInside s root → IsClosedTree l tree
+        → (numbering : Numbering) (root : Ptr Operation) (tree : Entity ℕ) (text : List ℕ)
+        → StandsForTexts D.says (Named numbering) s root tree → AreSmallInside s root → IsClosedTree l tree
         → IsPrinted D.formats D.says s root text → IsLayoutOf l.formats tree text }
 {}
 
@@ -55,14 +54,14 @@ pub fn printed_trees_are_layouts<D: TextDialect>()
 /// the same tree but for its labels.
 pub fn printed_modules_are_read_again<D: TextDialect>()
     ensures bytes { (l : Language) → CanPrint l → l.formats ≡ D.formats → (s : Seen D.OpKind D.Attr D.TypeKey)
-        → HasOwnPlaces s → (values : List Value) (root : Ptr Operation) (tree : Entity ℕ) (text : List ℕ)
-        → StandsForTexts D.says (Named values) s root tree → AreSmallInside s root → IsClosedTree l tree
+        → HasOwnPlaces s → (numbering : Numbering) (root : Ptr Operation) (tree : Entity ℕ) (text : List ℕ)
+        → StandsForTexts D.says (Named numbering) s root tree → AreSmallInside s root → IsClosedTree l tree
         → IsPrinted D.formats D.says s root text
         → IsUtf8 (text ++ 10 ∷ []) × (chars (text ++ 10 ∷ []) ≡ text ++ 10 ∷ []) }
     ensures read { (l : Language) → CanPrint l → l.formats ≡ D.formats → (g : Grammar) → IsGrammarOf l.formats g
         → (s : Seen D.OpKind D.Attr D.TypeKey) → HasOwnPlaces s
-        → (values : List Value) (root : Ptr Operation) (tree : Entity ℕ) (text : List ℕ)
-        → StandsForTexts D.says (Named values) s root tree → AreSmallInside s root → IsClosedTree l tree
+        → (numbering : Numbering) (root : Ptr Operation) (tree : Entity ℕ) (text : List ℕ)
+        → StandsForTexts D.says (Named numbering) s root tree → AreSmallInside s root → IsClosedTree l tree
         → IsNumbered tree
         → IsPrinted D.formats D.says s root text → length (text ++ 10 ∷ []) < 2 ^ 63
         → (again : Entity ℕ) × Says l (text ++ 10 ∷ []) again × IsSameModule again tree }

@@ -5,10 +5,10 @@ use Rattle.ir_print.specs.Formats as step
 use Rattle.ir_print.specs.Formats.{Formats, Kind, Step, Steps, no_steps}
 use Rattle.ir_print.specs.Layout as layout
 use Rattle.ir_print.specs.Layout.{Chunk, Before, an_id, a_word, a_part, gap_of_word, gap_of_part, line, word_of, member_of, spell, width_text, number_text, Printer}
-use Rattle.ir_print.specs.Pieces.{type_of_kind, attribute_of_kind, list, item, operands, region, name, number, width, ValueTree, Pieces, EntityHead, operation, a_region, block, Entity, entity, Entities, no_entity, an_entity}
+use Rattle.ir_print.specs.Pieces.{type_of_kind, attribute_of_kind, list, item, operands, successor, region, name, number, width, ValueTree, Pieces, EntityHead, operation, a_region, block, Entity, entity, Entities, no_entity, an_entity}
 use Rattle.ir_grammar.specs.declared.grammar.Action.{Action}
 use Rattle.ir_grammar.specs.declared.grammar.Action.TheVariants as act
-use Rattle.ir_rereading.proofs.layouts.Marks.{Mark, white, token, word, did, chunks, characters, Marker, part_on, step_on, format_on, kind_on, name_on, separator_of, some_on, more_members_on, members_on, piece_on, parts_on, more_names_on, names_on, results_on, operands_on, first_region_on, all_parts_on, operation_head_on, argument_on, more_arguments_on, arguments_on, block_head_on, operation_on, regions_on, region_on, blocks_on, block_on, operations_on, more_operations_on, marks}
+use Rattle.ir_rereading.proofs.layouts.Marks.{Mark, white, token, word, did, chunks, characters, Marker, part_on, step_on, format_on, kind_on, name_on, separator_of, some_on, more_members_on, members_on, piece_on, parts_on, more_names_on, names_on, results_on, operands_on, first_region_on, edge_on, all_parts_on, operation_head_on, argument_on, more_arguments_on, arguments_on, block_head_on, operation_on, regions_on, region_on, blocks_on, block_on, operations_on, more_operations_on, marks}
 
 -- the characters of marks are those of their chunks
 spell_chunks : (ms : List Mark) → spell (chunks ms) ≡ characters ms
@@ -131,6 +131,11 @@ drop_alike (suc n) [] (q ∷ qs) h = absurd h
 drop_alike (suc n) (r ∷ rs) [] h = absurd h
 drop_alike (suc n) (r ∷ rs) (q ∷ qs) h = drop_alike n rs qs h.1
 
+edge_alike : (ls us : List (List ℕ)) → IsAlike (Some (edge_on ls us)) (Some (layout.edge_on ls us))
+edge_alike [] us = λ s ms. refl
+edge_alike (l ∷ ls) us = λ s ms. ap (λ z. layout.token (codes "^") ∷ layout.token l ∷ layout.token (codes "(") ∷ z)
+    (names_alike act.Operand us (token (codes ")") ∷ did act.EndSuccessor ∷ ms))
+
 module _ (f : Formats) where
   mutual
     piece_alike : (t : ValueTree) (s : Step) (rest : List Mark) → chunks (piece_on f t s rest) ≡ layout.piece_on f t s (chunks rest)
@@ -139,6 +144,7 @@ module _ (f : Formats) where
     piece_alike (node list ts) s rest = members_alike s (parts_on f ts) (layout.parts_on f ts) (did act.EndList ∷ rest) (parts_alike ts)
     piece_alike (node item ts) s rest = format_alike a_word (member_of s) (parts_on f ts) (layout.parts_on f ts) (did act.EndItem ∷ rest) (parts_alike ts)
     piece_alike (node (operands n) ts) s rest = refl
+    piece_alike (node (successor n) ts) s rest = refl
     piece_alike (node region ts) s rest = refl
     piece_alike (node (name cs) ts) s rest = name_alike s cs rest
     piece_alike (node (number negative magnitude) ts) s rest = refl
@@ -148,19 +154,20 @@ module _ (f : Formats) where
     parts_alike no_tree = tt
     parts_alike (a_tree t ts) = ((λ s ms. piece_alike t s ms), parts_alike ts)
 
-  all_parts_alike : (ts : Pieces) (us : List (List ℕ)) (rs : List (List Mark → List Mark)) (qs : List (List Chunk → List Chunk)) → RegionsAlike rs qs
-      → AreAlike (all_parts_on f ts us rs) (layout.all_parts_on f ts us qs)
-  all_parts_alike no_tree us rs qs h = tt
-  all_parts_alike (a_tree (node (operands n) x) ts) us rs qs h = (operands_alike (take n us), all_parts_alike ts (drop n us) rs qs h)
-  all_parts_alike (a_tree (node region x) ts) us rs qs h = (first_alike rs qs h, all_parts_alike ts us (drop 1 rs) (drop 1 qs) (drop_alike 1 rs qs h))
-  all_parts_alike (a_tree (node p x) ts) us rs qs h = ((λ s ms. piece_alike (node p x) s ms), all_parts_alike ts us rs qs h)
+  all_parts_alike : (ts : Pieces) (us ls : List (List ℕ)) (rs : List (List Mark → List Mark)) (qs : List (List Chunk → List Chunk)) → RegionsAlike rs qs
+      → AreAlike (all_parts_on f ts us ls rs) (layout.all_parts_on f ts us ls qs)
+  all_parts_alike no_tree us ls rs qs h = tt
+  all_parts_alike (a_tree (node (operands n) x) ts) us ls rs qs h = (operands_alike (take n us), all_parts_alike ts (drop n us) ls rs qs h)
+  all_parts_alike (a_tree (node (successor n) x) ts) us ls rs qs h = (edge_alike ls (take n us), all_parts_alike ts (drop n us) (drop 1 ls) rs qs h)
+  all_parts_alike (a_tree (node region x) ts) us ls rs qs h = (first_alike rs qs h, all_parts_alike ts us ls (drop 1 rs) (drop 1 qs) (drop_alike 1 rs qs h))
+  all_parts_alike (a_tree (node p x) ts) us ls rs qs h = ((λ s ms. piece_alike (node p x) s ms), all_parts_alike ts us ls rs qs h)
 
   operation_head_alike : (h : EntityHead (List ℕ)) (rs : List (List Mark → List Mark)) (qs : List (List Chunk → List Chunk)) (rest : List Mark) → RegionsAlike rs qs
       → chunks (operation_head_on f h rs rest) ≡ layout.operation_head_on f h qs (chunks rest)
-  operation_head_alike (operation kind results used pieces) rs qs rest h =
-      results_alike results _ ∙ ap (layout.results_on results) (kind_alike (slice_get f.operations kind) (act.Operation kind) act.EndOperation _ _ rest (all_parts_alike pieces used rs qs h))
+  operation_head_alike (operation kind results used successors pieces) rs qs rest h =
+      results_alike results _ ∙ ap (layout.results_on results) (kind_alike (slice_get f.operations kind) (act.Operation kind) act.EndOperation _ _ rest (all_parts_alike pieces used successors rs qs h))
   operation_head_alike a_region rs qs rest h = refl
-  operation_head_alike (block label arguments) rs qs rest h = refl
+  operation_head_alike (block named label arguments) rs qs rest h = refl
 
   argument_alike : (x : List ℕ × ValueTree) (rest : List Mark) → chunks (argument_on f x rest) ≡ layout.argument_on f x (chunks rest)
   argument_alike x rest = ap (λ z. layout.token x.0 ∷ layout.word (codes ": ") (codes ":") ∷ z) (piece_alike x.1 step.a_type rest)
@@ -175,9 +182,9 @@ module _ (f : Formats) where
 
   block_head_alike : (h : EntityHead (List ℕ)) (inner : List Mark → List Mark) (printed : List Chunk → List Chunk) (rest : List Mark) → ((ms : List Mark) → chunks (inner ms) ≡ printed (chunks ms))
       → chunks (block_head_on f h inner rest) ≡ layout.block_head_on f h (printed (chunks rest))
-  block_head_alike (operation kind results used pieces) inner printed rest k = k rest
+  block_head_alike (operation kind results used successors pieces) inner printed rest k = k rest
   block_head_alike a_region inner printed rest k = k rest
-  block_head_alike (block label arguments) inner printed rest k =
+  block_head_alike (block named label arguments) inner printed rest k =
       ap (λ z. layout.token (codes "^") ∷ layout.token label ∷ layout.token (codes "(") ∷ z)
       (arguments_alike arguments _ ∙ ap (λ z. layout.arguments_on f arguments (layout.token (codes ")") ∷ layout.token (codes ":") ∷ z)) (k (did act.EndBlock ∷ rest)))
 

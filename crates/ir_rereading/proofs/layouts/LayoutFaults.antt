@@ -24,7 +24,7 @@ use Rattle.ir_forest.proofs.BuiltTrees.{run_append, AllBefore, AllBuilt, pushed,
 use Rattle.ir_rereading.proofs.layouts.LayoutParts.{AreLow, IsCounted, AreFine}
 use Rattle.ir_rereading.proofs.layouts.LayoutOperations.{IsPlainTree}
 use Rattle.ir_rereading.proofs.layouts.LayoutTrees.{HasTexts, fine_whole, layout_builds}
-use Rattle.ir_rereading.proofs.layouts.Marks.{tokens, events, marks}
+use Rattle.ir_rereading.proofs.layouts.Marks.{tokens, events, marks, IsSpelt}
 
 -- ---- names of results
 
@@ -230,6 +230,7 @@ ends_depth act.Label x d h = let e : act.EndBlock ≡ x = cc in subst (λ z. (op
 ends_depth (act.BeginType kind) x d h = let e : act.EndType ≡ x = cc in subst (λ z. (opens z ≡ false) × (depth_at (d + 1) z ≡ d)) e (refl, omega arith)
 ends_depth (act.BeginAttribute kind) x d h = let e : act.EndAttribute ≡ x = cc in subst (λ z. (opens z ≡ false) × (depth_at (d + 1) z ≡ d)) e (refl, omega arith)
 ends_depth act.BeginOperands x d h = let e : act.EndOperands ≡ x = cc in subst (λ z. (opens z ≡ false) × (depth_at d z ≡ d)) e (refl, refl)
+ends_depth act.BeginSuccessor x d h = let e : act.EndSuccessor ≡ x = cc in subst (λ z. (opens z ≡ false) × (depth_at d z ≡ d)) e (refl, refl)
 ends_depth act.BeginList x d h = let e : act.EndList ≡ x = cc in subst (λ z. (opens z ≡ false) × (depth_at d z ≡ d)) e (refl, refl)
 ends_depth act.BeginItem x d h = let e : act.EndItem ≡ x = cc in subst (λ z. (opens z ≡ false) × (depth_at d z ≡ d)) e (refl, refl)
 ends_depth _ x d h = cc
@@ -268,28 +269,28 @@ low_forest ts es w low e h = low_trees ts 0 [] w low (subst (OpensLate 0) (e ∙
 
 -- ---- layouts
 
-pub no_number_fault : (f : Formats) (v : Values) (t : Entity (List ℕ)) (text : ℕ → List ℕ) → FitsTree f v t → IsPlainTree t → IsOperation v t → HasTexts text (marks f t)
+pub no_number_fault : (f : Formats) (v : Values) (t : Entity (List ℕ)) (text : ℕ → List ℕ) → FitsTree f v t → IsPlainTree t → IsOperation v t → IsSpelt t → HasTexts text (marks f t)
     → (fault : Fault) → HasNumberFault v text (events (marks f t)) fault → ⊥
-no_number_fault f v t text fit plain is h fault n =
-    let b = layout_builds f v t text fit plain is h in
+no_number_fault f v t text fit plain is spelt h fault n =
+    let b = layout_builds f v t text fit plain is spelt h in
     no_number v text b.forest (events (marks f t)) b.says.fine b.done fault n
 
-pub no_names_fault : (f : Formats) (v : Values) (t : Entity (List ℕ)) (text : ℕ → List ℕ) → FitsTree f v t → IsPlainTree t → IsOperation v t → HasTexts text (marks f t)
+pub no_names_fault : (f : Formats) (v : Values) (t : Entity (List ℕ)) (text : ℕ → List ℕ) → FitsTree f v t → IsPlainTree t → IsOperation v t → IsSpelt t → HasTexts text (marks f t)
     → (fault : Fault) → HasNamesFault v text (events (marks f t)) fault → ⊥
-no_names_fault f v t text fit plain is h fault n =
-    let b = layout_builds f v t text fit plain is h in
+no_names_fault f v t text fit plain is spelt h fault n =
+    let b = layout_builds f v t text fit plain is spelt h in
     no_names v text b.forest (events (marks f t)) b.says.fine b.done fault n
 
 -- the token with a number, or nothing
 abbrev token_at : List (List ℕ) → ℕ → List ℕ
 token_at ts k = option_map_or (λ x. x) (slice_get ts k) []
 
-pub no_deep_fault : (f : Formats) (v : Values) (t : Entity (List ℕ)) → FitsTree f v t → IsPlainTree t → IsOperation v t → IsShallow 64 t
+pub no_deep_fault : (f : Formats) (v : Values) (t : Entity (List ℕ)) → FitsTree f v t → IsPlainTree t → IsOperation v t → IsSpelt t → IsShallow 64 t
     → ((fault : Fault) → IsTooDeep (events (marks f t)) fault → ⊥) × (OpensMore 64 0 (events (marks f t)) → ⊥)
-no_deep_fault f v t fit plain is shallow =
+no_deep_fault f v t fit plain is spelt shallow =
     let es = events (marks f t) in
     let text = token_at (tokens (marks f t)) in
-    let b = layout_builds f v t text fit plain is (λ k x e. ap (λ o. option_map_or (λ x. x) o []) e) in
+    let b = layout_builds f v t text fit plain is spelt (λ k x e. ap (λ o. option_map_or (λ x. x) o []) e) in
     let whole = fine_whole v text [] b.forest b.says.fine in
     let low = b.says.low 0 64 refl (shallow, tt) in
     (λ fault h. low_forest b.forest es whole low b.done (late_at es 0 0 h.0 h.1), λ h. low_forest b.forest es whole low b.done (late_more es 0 0 h))

@@ -11,7 +11,7 @@ use Rattle.ir_grammar.specs.declared.grammar.Action.{Action}
 use Rattle.ir_grammar.specs.declared.grammar.Action.TheVariants as act
 use Rattle.ir_forest.specs.Building.{with_name}
 use Rattle.ir_forest.specs.Forest.{end_of, Deed, deeds_from, ActionSpan, ending, deeds_in, IsWholeStep}
-use Rattle.ir_forest.specs.Meaning.{pieces_in, operands_in, regions_in, all_renamed}
+use Rattle.ir_forest.specs.Meaning.{pieces_in, operands_in, successors_in, regions_in, all_renamed}
 use Rattle.ir_grammar.specs.Reading.{opens, depth_at}
 use Rattle.ir_forest.specs.ValueFaults.{refused}
 use Rattle.ir_forest.proofs.BuiltTrees.{join_assoc, deeds_join}
@@ -151,90 +151,100 @@ module _ (text : ℕ → List ℕ) where
 
 -- ---- what the parts of an operation, a type or an attribute say
 
--- These trees say these pieces, operands with these names, and these regions, before whatever trees come next.
-pub record Says (v : Values) (text : ℕ → List ℕ) (ps : Pieces) (us : List (List ℕ)) (rs : Entities (List ℕ)) (xs : Trees ActionSpan) : Type 0 where
+-- These trees say these pieces, operands and edges with these names, and these regions, before whatever trees come next.
+pub record Says (v : Values) (text : ℕ → List ℕ) (ps : Pieces) (us ls : List (List ℕ)) (rs : Entities (List ℕ)) (xs : Trees ActionSpan) : Type 0 where
   pub fine : (rest : Trees ActionSpan) → AreFine v text [] rest → AreFine v text [] (join xs rest)
   pub pieces : (rest : Trees ActionSpan) → pieces_in v text (join xs rest) ≡ join ps (pieces_in v text rest)
   pub operands : (rest : Trees ActionSpan) → map text (operands_in (join xs rest)) ≡ us ++ map text (operands_in rest)
-  pub regions : (rest : Trees ActionSpan) → all_renamed text (regions_in v text (join xs rest)) ≡ joined rs (all_renamed text (regions_in v text rest))
+  pub successors : (rest : Trees ActionSpan) → map text (successors_in (join xs rest)) ≡ ls ++ map text (successors_in rest)
+  pub regions : (rest : Trees ActionSpan) → all_renamed text text (regions_in v text (join xs rest)) ≡ joined rs (all_renamed text text (regions_in v text rest))
   pub low : (d e : ℕ) → d + e ≡ 64 → AreFlat e ps → AreShallow e rs → (rest : Trees ActionSpan) → AreLow d rest → AreLow d (join xs rest)
 
 module _ (v : Values) (text : ℕ → List ℕ) where
-  pub says_none : Says v text no_tree [] no_entity no_tree
-  says_none = record { fine = λ rest h. h; pieces = λ rest. refl; operands = λ rest. refl; regions = λ rest. refl; low = λ d e s f g rest h. h }
+  pub says_none : Says v text no_tree [] [] no_entity no_tree
+  says_none = record { fine = λ rest h. h; pieces = λ rest. refl; operands = λ rest. refl; successors = λ rest. refl; regions = λ rest. refl; low = λ d e s f g rest h. h }
 
-  pub says_more : (t : ValueTree) (ts : Pieces) (us ws : List (List ℕ)) (rs qs : Entities (List ℕ)) (xs ys : Trees ActionSpan)
-      → Says v text (a_tree t no_tree) us rs xs → Says v text ts ws qs ys → Says v text (a_tree t ts) (us ++ ws) (joined rs qs) (join xs ys)
-  says_more t ts us ws rs qs xs ys a b = record {
+  pub says_more : (t : ValueTree) (ts : Pieces) (us ws ls ms : List (List ℕ)) (rs qs : Entities (List ℕ)) (xs ys : Trees ActionSpan)
+      → Says v text (a_tree t no_tree) us ls rs xs → Says v text ts ws ms qs ys → Says v text (a_tree t ts) (us ++ ws) (ls ++ ms) (joined rs qs) (join xs ys)
+  says_more t ts us ws ls ms rs qs xs ys a b = record {
     fine = λ rest h. subst (AreFine v text []) (sym (join_assoc xs ys rest)) (a.fine (join ys rest) (b.fine rest h));
     pieces = λ rest. ap (pieces_in v text) (join_assoc xs ys rest) ∙ (a.pieces (join ys rest) ∙ ap (a_tree t) (b.pieces rest));
     operands = λ rest. ap (λ z. map text (operands_in z)) (join_assoc xs ys rest)
         ∙ (a.operands (join ys rest) ∙ (ap (λ z. us ++ z) (b.operands rest) ∙ sym (append_assoc us ws (map text (operands_in rest)))));
-    regions = λ rest. ap (λ z. all_renamed text (regions_in v text z)) (join_assoc xs ys rest)
-        ∙ (a.regions (join ys rest) ∙ (ap (joined rs) (b.regions rest) ∙ sym (joined_assoc rs qs (all_renamed text (regions_in v text rest)))));
+    successors = λ rest. ap (λ z. map text (successors_in z)) (join_assoc xs ys rest)
+        ∙ (a.successors (join ys rest) ∙ (ap (λ z. ls ++ z) (b.successors rest) ∙ sym (append_assoc ls ms (map text (successors_in rest)))));
+    regions = λ rest. ap (λ z. all_renamed text text (regions_in v text z)) (join_assoc xs ys rest)
+        ∙ (a.regions (join ys rest) ∙ (ap (joined rs) (b.regions rest) ∙ sym (joined_assoc rs qs (all_renamed text text (regions_in v text rest)))));
     low = λ d e s f g rest h. let parts = shallow_apart e rs qs g in
         subst (AreLow d) (sym (join_assoc xs ys rest)) (a.low d e s (f.0, tt) parts.0 (join ys rest) (b.low d e s f.1 parts.1 rest h));
   }
 
   -- A part is read at a step of a format, or nothing is printed for it: then it is no operands.
-  abbrev pub IsRead : step.Step → ValueTree → List (List ℕ) → Entities (List ℕ) → Option Marker → Type 0
-  IsRead s t us rs None = (t ≡ node (operands 0) no_tree) × (us ≡ []) × (rs ≡ no_entity)
-  IsRead s t us rs (Some p) = Reads text (Says v text (a_tree t no_tree) us rs) (p s)
+  abbrev pub IsRead : step.Step → ValueTree → (us ls : List (List ℕ)) → Entities (List ℕ) → Option Marker → Type 0
+  IsRead s t us ls rs None = (t ≡ node (operands 0) no_tree) × (us ≡ []) × (ls ≡ []) × (rs ≡ no_entity)
+  IsRead s t us ls rs (Some p) = Reads text (Says v text (a_tree t no_tree) us ls rs) (p s)
 
-  -- parts are read at the steps of a format, and take operands and regions one after the other
-  abbrev pub AreRead : List step.Step → Pieces → List (List ℕ) → Entities (List ℕ) → List (Option Marker) → Type 0
-  AreRead [] no_tree us rs ps = (us ≡ []) × (rs ≡ no_entity)
-  AreRead (s ∷ ss) (a_tree t ts) us rs (p ∷ ps) = (first others : List (List ℕ)) × (these those : Entities (List ℕ))
-      × (us ≡ first ++ others) × (rs ≡ joined these those) × IsRead s t first these p × AreRead ss ts others those ps
-  AreRead _ _ us rs ps = ⊥
+  -- parts are read at the steps of a format, and take operands, edges and regions one after the other
+  abbrev pub AreRead : List step.Step → Pieces → (us ls : List (List ℕ)) → Entities (List ℕ) → List (Option Marker) → Type 0
+  AreRead [] no_tree us ls rs ps = (us ≡ []) × (ls ≡ []) × (rs ≡ no_entity)
+  AreRead (s ∷ ss) (a_tree t ts) us ls rs (p ∷ ps) = (first others : List (List ℕ)) × (ahead later : List (List ℕ)) × (these those : Entities (List ℕ))
+      × (us ≡ first ++ others) × (ls ≡ ahead ++ later) × (rs ≡ joined these those) × IsRead s t first ahead these p × AreRead ss ts others later those ps
+  AreRead _ _ us ls rs ps = ⊥
 
   -- ---- formats
 
   -- Nothing is printed for no operands.
   none_read : (k : ℕ) (rest : List Mark) → HaveTexts text k rest
-      → Gives text (Says v text (a_tree (node (operands 0) no_tree) no_tree) [] no_entity) k (did act.BeginOperands ∷ did act.EndOperands ∷ rest) rest
+      → Gives text (Says v text (a_tree (node (operands 0) no_tree) no_tree) [] [] no_entity) k (did act.BeginOperands ∷ did act.EndOperands ∷ rest) rest
   none_read k rest h = so text k (did act.BeginOperands ∷ did act.EndOperands ∷ rest) rest
-      (λ xs n. subst (Says v text (a_tree (node (operands 0) no_tree) no_tree) [] no_entity) (sym n.2) (subst (λ us. Says v text (a_tree (node (operands 0) no_tree) no_tree) [] no_entity (tree n.0 us)) (sym n.3) (empty n.0)))
+      (λ xs n. subst (Says v text (a_tree (node (operands 0) no_tree) no_tree) [] [] no_entity) (sym n.2) (subst (λ us. Says v text (a_tree (node (operands 0) no_tree) no_tree) [] [] no_entity (tree n.0 us)) (sym n.3) (empty n.0)))
       (between text act.BeginOperands act.EndOperands refl k (did act.EndOperands ∷ rest) rest (nothing text (λ us. us ≡ no_tree) k (did act.EndOperands ∷ rest) refl h))
     where
       tree : ℕ → Trees ActionSpan → Trees ActionSpan
       tree j us = a_tree (node (record { action = act.BeginOperands; first = k - 1; last = j }) us) no_tree
 
-      empty : (j : ℕ) → Says v text (a_tree (node (operands 0) no_tree) no_tree) [] no_entity (tree j no_tree)
-      empty j = record { fine = λ rest h. (tt, refl, tt, tt, h); pieces = λ rest. refl; operands = λ rest. refl; regions = λ rest. refl; low = λ d e s f g rest h. (λ w. cc, tt, h) }
+      empty : (j : ℕ) → Says v text (a_tree (node (operands 0) no_tree) no_tree) [] [] no_entity (tree j no_tree)
+      empty j = record { fine = λ rest h. (tt, refl, tt, tt, h); pieces = λ rest. refl; operands = λ rest. refl; successors = λ rest. refl; regions = λ rest. refl; low = λ d e s f g rest h. (λ w. cc, tt, h) }
 
-  part_read : (before : Before) (s : step.Step) (t : ValueTree) (us : List (List ℕ)) (rs : Entities (List ℕ)) (p : Option Marker) (ps : List (Option Marker)) (Q : Trees ActionSpan → Type 0)
-      (more : Before → List (Option Marker) → List Mark) (rest : List Mark) → IsRead s t us rs p → ((b : Before) (n : ℕ) → HaveTexts text n (more b ps) → Gives text Q n (more b ps) rest)
+  part_read : (before : Before) (s : step.Step) (t : ValueTree) (us ls : List (List ℕ)) (rs : Entities (List ℕ)) (p : Option Marker) (ps : List (Option Marker)) (Q : Trees ActionSpan → Type 0)
+      (more : Before → List (Option Marker) → List Mark) (rest : List Mark) → IsRead s t us ls rs p → ((b : Before) (n : ℕ) → HaveTexts text n (more b ps) → Gives text Q n (more b ps) rest)
       → (k : ℕ) → HaveTexts text k (part_on before s (p ∷ ps) more)
-      → Gives text (λ zs. (xs : Trees ActionSpan) × (ys : Trees ActionSpan) × (zs ≡ join xs ys) × Says v text (a_tree t no_tree) us rs xs × Q ys) k (part_on before s (p ∷ ps) more) rest
-  part_read before s t us rs None ps Q more rest r q k h =
-      let one : Gives text (Says v text (a_tree t no_tree) us rs) k (did act.BeginOperands ∷ did act.EndOperands ∷ more before ps) (more before ps) =
+      → Gives text (λ zs. (xs : Trees ActionSpan) × (ys : Trees ActionSpan) × (zs ≡ join xs ys) × Says v text (a_tree t no_tree) us ls rs xs × Q ys) k (part_on before s (p ∷ ps) more) rest
+  part_read before s t us ls rs None ps Q more rest r q k h =
+      let one : Gives text (Says v text (a_tree t no_tree) us ls rs) k (did act.BeginOperands ∷ did act.EndOperands ∷ more before ps) (more before ps) =
       so text k (did act.BeginOperands ∷ did act.EndOperands ∷ more before ps) (more before ps)
-      (λ xs s. subst (λ z. Says v text (a_tree z no_tree) us rs xs) (sym r.0) (subst (λ z. Says v text (a_tree (node (operands 0) no_tree) no_tree) z rs xs) (sym r.1) (subst (λ z. Says v text (a_tree (node (operands 0) no_tree) no_tree) [] z xs) (sym r.2) s)))
+      (λ xs s. subst (λ z. Says v text (a_tree z no_tree) us ls rs xs) (sym r.0)
+      (subst (λ z. Says v text (a_tree (node (operands 0) no_tree) no_tree) z ls rs xs) (sym r.1)
+      (subst (λ z. Says v text (a_tree (node (operands 0) no_tree) no_tree) [] z rs xs) (sym r.2)
+      (subst (λ z. Says v text (a_tree (node (operands 0) no_tree) no_tree) [] [] z xs) (sym r.3) s))))
       (none_read k (more before ps) h) in
       then text k (did act.BeginOperands ∷ did act.EndOperands ∷ more before ps) (more before ps) rest (λ xs ys a b. (xs, ys, refl, a, b)) one (q before)
-  part_read before s t us rs (Some p) ps Q more rest r q k h =
+  part_read before s t us ls rs (Some p) ps Q more rest r q k h =
       spaced text k (p s (more a_part ps)) rest (gap_of_part before) (then text k (p s (more a_part ps)) (more a_part ps) rest (λ xs ys a b. (xs, ys, refl, a, b)) (r k (more a_part ps) h) (q a_part))
 
   -- steps with parts that are read
-  pub format_read : (ss : Steps) (before : Before) (ts : Pieces) (us : List (List ℕ)) (rs : Entities (List ℕ)) (ps : List (Option Marker)) → AreRead (parts_in ss) ts us rs ps
-      → Reads text (Says v text ts us rs) (format_on before ss ps)
-  format_read no_steps before no_tree us rs ps r k rest h =
-      nothing text (Says v text no_tree us rs) k rest (subst (λ z. Says v text no_tree z rs no_tree) (sym r.0) (subst (λ z. Says v text no_tree [] z no_tree) (sym r.1) says_none)) h
-  format_read no_steps before (a_tree t ts) us rs ps r k rest h = absurd r
-  format_read (step.step (step.word printed cs) ss) before ts us rs ps r k rest h =
+  pub format_read : (ss : Steps) (before : Before) (ts : Pieces) (us ls : List (List ℕ)) (rs : Entities (List ℕ)) (ps : List (Option Marker)) → AreRead (parts_in ss) ts us ls rs ps
+      → Reads text (Says v text ts us ls rs) (format_on before ss ps)
+  format_read no_steps before no_tree us ls rs ps r k rest h =
+      nothing text (Says v text no_tree us ls rs) k rest
+      (subst (λ z. Says v text no_tree z ls rs no_tree) (sym r.0) (subst (λ z. Says v text no_tree [] z rs no_tree) (sym r.1) (subst (λ z. Says v text no_tree [] [] z no_tree) (sym r.2) says_none))) h
+  format_read no_steps before (a_tree t ts) us ls rs ps r k rest h = absurd r
+  format_read (step.step (step.word printed cs) ss) before ts us ls rs ps r k rest h =
       spaced text k (word printed cs ∷ format_on a_word ss ps rest) rest (gap_of_word before)
-      (worded text k (format_on a_word ss ps rest) rest printed cs (format_read ss a_word ts us rs ps r (k + 1) rest h.1))
-  format_read (step.step s ss) before no_tree us rs ps r k rest h = absurd r
-  format_read (step.step s ss) before (a_tree t ts) us rs [] r k rest h = absurd r
-  format_read (step.step s ss) before (a_tree t ts) us rs (p ∷ ps) r k rest h =
+      (worded text k (format_on a_word ss ps rest) rest printed cs (format_read ss a_word ts us ls rs ps r (k + 1) rest h.1))
+  format_read (step.step s ss) before no_tree us ls rs ps r k rest h = absurd r
+  format_read (step.step s ss) before (a_tree t ts) us ls rs [] r k rest h = absurd r
+  format_read (step.step s ss) before (a_tree t ts) us ls rs (p ∷ ps) r k rest h =
       so text k (part_on before s (p ∷ ps) (λ b qs. format_on b ss qs rest)) rest
-      (λ zs q. subst (Says v text (a_tree t ts) us rs) (sym q.2) (subst (λ z. Says v text (a_tree t ts) z rs (join q.0 q.1)) (sym r.4) (subst (λ z. Says v text (a_tree t ts) (r.0 ++ r.1) z (join q.0 q.1)) (sym r.5) (says_more t ts r.0 r.1 r.2 r.3 q.0 q.1 q.3 q.4))))
-      (part_read before s t r.0 r.2 p ps (Says v text ts r.1 r.3) (λ b qs. format_on b ss qs rest) rest r.6 (λ b n g. format_read ss b ts r.1 r.3 ps r.7 n rest g) k h)
+      (λ zs q. subst (Says v text (a_tree t ts) us ls rs) (sym q.2)
+      (subst (λ z. Says v text (a_tree t ts) z ls rs (join q.0 q.1)) (sym r.6)
+      (subst (λ z. Says v text (a_tree t ts) (r.0 ++ r.1) z rs (join q.0 q.1)) (sym r.7)
+      (subst (λ z. Says v text (a_tree t ts) (r.0 ++ r.1) (r.2 ++ r.3) z (join q.0 q.1)) (sym r.8) (says_more t ts r.0 r.1 r.2 r.3 r.4 r.5 q.0 q.1 q.3 q.4)))))
+      (part_read before s t r.0 r.2 r.4 p ps (Says v text ts r.1 r.3 r.5) (λ b qs. format_on b ss qs rest) rest r.9 (λ b n g. format_read ss b ts r.1 r.3 r.5 ps r.10 n rest g) k h)
 
   -- a kind's id, what its format says, and what ends
-  pub kind_read : (c : Kind) (begins ends : Action) → end_of begins ≡ Some ends → (ts : Pieces) (us : List (List ℕ)) (rs : Entities (List ℕ)) (ps : List (Option Marker)) → AreRead (parts_in c.format) ts us rs ps
-      → (k : ℕ) (rest : List Mark) → HaveTexts text k (kind_on (Some c) begins ends ps rest) → Gives text (IsNode begins (k + 1 - 1) (Says v text ts us rs)) k (kind_on (Some c) begins ends ps rest) rest
-  kind_read c begins ends e ts us rs ps r k rest h =
+  pub kind_read : (c : Kind) (begins ends : Action) → end_of begins ≡ Some ends → (ts : Pieces) (us ls : List (List ℕ)) (rs : Entities (List ℕ)) (ps : List (Option Marker)) → AreRead (parts_in c.format) ts us ls rs ps
+      → (k : ℕ) (rest : List Mark) → HaveTexts text k (kind_on (Some c) begins ends ps rest) → Gives text (IsNode begins (k + 1 - 1) (Says v text ts us ls rs)) k (kind_on (Some c) begins ends ps rest) rest
+  kind_read c begins ends e ts us ls rs ps r k rest h =
       taken text k (did begins ∷ format_on an_id c.format ps (did ends ∷ rest)) rest c.id
-      (between text begins ends e (k + 1) (format_on an_id c.format ps (did ends ∷ rest)) rest (format_read c.format an_id ts us rs ps r (k + 1) (did ends ∷ rest) h.1))
+      (between text begins ends e (k + 1) (format_on an_id c.format ps (did ends ∷ rest)) rest (format_read c.format an_id ts us ls rs ps r (k + 1) (did ends ∷ rest) h.1))

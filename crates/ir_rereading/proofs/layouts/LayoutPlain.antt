@@ -4,7 +4,7 @@ use Rattle.ir_names.specs.Tree.{Trees, node, no_tree, a_tree, count}
 use Rattle.ir_names.specs.declared.kinds.Signedness.TheVariants.{Signless, Signed, Unsigned}
 use Rattle.ir_print.specs.Formats as step
 use Rattle.ir_print.specs.Formats.{Formats}
-use Rattle.ir_print.specs.Pieces.{type_of_kind, attribute_of_kind, list, item, operands, region, name, number, width, ValueTree, Pieces, Values, operation, a_region, block, Entity, entity, Entities, no_entity, an_entity}
+use Rattle.ir_print.specs.Pieces.{type_of_kind, attribute_of_kind, list, item, operands, successor, region, name, number, width, ValueTree, Pieces, Values, operation, a_region, block, Entity, entity, Entities, no_entity, an_entity}
 use Rattle.ir_print.specs.Shapes.{parts_in, IsListOf, TakesName, Fits, FitAll, FitMembers, FitsMember, FitArguments}
 use Rattle.ir_grammar.specs.declared.grammar.Action.{Action}
 use Rattle.ir_grammar.specs.declared.grammar.Action.TheVariants as act
@@ -38,6 +38,7 @@ module _ (f : Formats) (v : Values) (o : Outer f) where
     value_plain (node list ts) s p fit bare = list_plain s ts p fit bare (λ ss q fits b. members_plain ts ss q fits b)
     value_plain (node item ts) s p fit bare = absurd fit
     value_plain (node (operands n) ts) s p fit bare = absurd (values_alone s n fit p)
+    value_plain (node (successor n) ts) s p fit bare = let wrong : false ≡ true = ap is_value_step (sym fit) ∙ p in cc
     value_plain (node region ts) s p fit bare = let wrong : false ≡ true = ap is_value_step (sym fit) ∙ p in cc
     value_plain (node (name cs) ts) s p fit bare = bare
     value_plain (node (number negative magnitude) ts) s p fit bare = bare
@@ -66,6 +67,7 @@ module _ (f : Formats) (v : Values) (o : Outer f) where
   part_plain (node list ts) s p fit bare = list_part s ts p fit bare
   part_plain (node item ts) s p fit bare = absurd fit
   part_plain (node (operands n) ts) s p fit bare = bare
+  part_plain (node (successor n) ts) s p fit bare = bare
   part_plain (node region ts) s p fit bare = bare
   part_plain (node (name cs) ts) s p fit bare = bare
   part_plain (node (number negative magnitude) ts) s p fit bare = bare
@@ -83,9 +85,9 @@ module _ (f : Formats) (v : Values) (o : Outer f) where
 
     mutual
       tree_plain : (t : Entity N) → FitsTree f v t → IsBareTree t → IsPlainTree t
-      tree_plain (entity (operation kind results used pieces) ts) fit bare = (parts_plain pieces (parts_in fit.0.0.format) (o.operations kind fit.0.0 fit.0.1) fit.0.2 bare.0, trees_plain ts fit.1 bare.1)
+      tree_plain (entity (operation kind results used successors pieces) ts) fit bare = (parts_plain pieces (parts_in fit.0.0.format) (o.operations kind fit.0.0 fit.0.1) fit.0.2 bare.0, trees_plain ts fit.1 bare.1)
       tree_plain (entity a_region ts) fit bare = (tt, trees_plain ts fit.1 bare.1)
-      tree_plain (entity (block label arguments) ts) fit bare = (arguments_plain arguments fit.0 bare.0, trees_plain ts fit.1 bare.1)
+      tree_plain (entity (block named label arguments) ts) fit bare = (arguments_plain arguments fit.0 bare.0, trees_plain ts fit.1 bare.1)
 
       trees_plain : (ts : Entities N) → FitTrees f v ts → AreBareTrees ts → ArePlainTrees ts
       trees_plain no_entity fit bare = tt
@@ -117,6 +119,7 @@ module _ (v : Values) (text : ℕ → List ℕ) (keeps : KeepsBare v) where
   piece_bare act.BeginList cs many ts rest h r = (h, r)
   piece_bare act.BeginItem cs many ts rest h r = (h, r)
   piece_bare act.BeginOperands cs many ts rest h r = (refl, r)
+  piece_bare act.BeginSuccessor cs many ts rest h r = (refl, r)
   piece_bare act.BeginRegion cs many ts rest h r = (refl, r)
   piece_bare act.Name cs many ts rest h r = (refl, r)
   piece_bare act.Number cs many ts rest h r = (number_bare cs, r)
@@ -168,7 +171,7 @@ module _ (v : Values) (text : ℕ → List ℕ) (keeps : KeepsBare v) where
             (λ kind. an_entity (entity (head_of v text names ts kind) (regions_in v text ts)) (operations_in v text [] rest))
             (later.operations (names ++ s.first ∷ [])) (λ kind. ((pieces_bare ts, inner.regions), later.operations [])) (later.operations names);
         regions = by_region_bare s.action (an_entity (entity a_region (blocks_in v text ts)) (regions_in v text rest)) (regions_in v text rest) ((tt, inner.blocks), later.regions) later.regions;
-        blocks = by_label_bare s.action (an_entity (entity (block (text s.first) (arguments_in v text 0 ts)) (operations_in v text [] ts)) (blocks_in v text rest)) (blocks_in v text rest)
+        blocks = by_label_bare s.action (an_entity (entity (block s.first (text s.first) (arguments_in v text 0 ts)) (operations_in v text [] ts)) (blocks_in v text rest)) (blocks_in v text rest)
             ((arguments_bare ts 0, inner.operations []), later.blocks) later.blocks;
       }
 
@@ -178,7 +181,7 @@ read_bare v text keeps forest tree e = (subst AreBareTrees e ((all_bare v text k
 
 -- ---- other names and labels
 
-module _ {M N : Type 0} (g : M → N) where
+module _ {M N : Type 0} (g b : M → N) where
   renamed_arguments : (xs : List (M × ValueTree)) → AreBareArguments xs → AreBareArguments (map (λ r. (g r.0, r.1)) xs)
   renamed_arguments [] h = tt
   renamed_arguments (x ∷ xs) h = (h.0, renamed_arguments xs h.1)
@@ -189,22 +192,22 @@ module _ {M N : Type 0} (g : M → N) where
 
   mutual
     -- bare with other names
-    pub bare_renamed : (t : Entity M) → IsBareTree t → IsBareTree (renamed g t)
-    bare_renamed (entity (operation kind results used pieces) ts) h = (h.0, all_bare_renamed ts h.1)
+    pub bare_renamed : (t : Entity M) → IsBareTree t → IsBareTree (renamed g b t)
+    bare_renamed (entity (operation kind results used successors pieces) ts) h = (h.0, all_bare_renamed ts h.1)
     bare_renamed (entity a_region ts) h = (tt, all_bare_renamed ts h.1)
-    bare_renamed (entity (block label arguments) ts) h = (renamed_arguments arguments h.0, all_bare_renamed ts h.1)
+    bare_renamed (entity (block named label arguments) ts) h = (renamed_arguments arguments h.0, all_bare_renamed ts h.1)
 
-    all_bare_renamed : (ts : Entities M) → AreBareTrees ts → AreBareTrees (all_renamed g ts)
+    all_bare_renamed : (ts : Entities M) → AreBareTrees ts → AreBareTrees (all_renamed g b ts)
     all_bare_renamed no_entity h = tt
     all_bare_renamed (an_entity t ts) h = (bare_renamed t h.0, all_bare_renamed ts h.1)
 
   mutual
-    pub renamed_bare : (t : Entity M) → IsBareTree (renamed g t) → IsBareTree t
-    renamed_bare (entity (operation kind results used pieces) ts) h = (h.0, all_renamed_bare ts h.1)
+    pub renamed_bare : (t : Entity M) → IsBareTree (renamed g b t) → IsBareTree t
+    renamed_bare (entity (operation kind results used successors pieces) ts) h = (h.0, all_renamed_bare ts h.1)
     renamed_bare (entity a_region ts) h = (tt, all_renamed_bare ts h.1)
-    renamed_bare (entity (block label arguments) ts) h = (arguments_renamed arguments h.0, all_renamed_bare ts h.1)
+    renamed_bare (entity (block named label arguments) ts) h = (arguments_renamed arguments h.0, all_renamed_bare ts h.1)
 
-    all_renamed_bare : (ts : Entities M) → AreBareTrees (all_renamed g ts) → AreBareTrees ts
+    all_renamed_bare : (ts : Entities M) → AreBareTrees (all_renamed g b ts) → AreBareTrees ts
     all_renamed_bare no_entity h = tt
     all_renamed_bare (an_entity t ts) h = (renamed_bare t h.0, all_renamed_bare ts h.1)
 
@@ -212,9 +215,9 @@ module _ {N : Type 0} where
   mutual
     -- bare without labels
     pub bare_unlabelled : (t : Entity N) → IsBareTree t → IsBareTree (unlabelled t)
-    bare_unlabelled (entity (operation kind results used pieces) ts) h = (h.0, all_bare_unlabelled ts h.1)
+    bare_unlabelled (entity (operation kind results used successors pieces) ts) h = (h.0, all_bare_unlabelled ts h.1)
     bare_unlabelled (entity a_region ts) h = (tt, all_bare_unlabelled ts h.1)
-    bare_unlabelled (entity (block label arguments) ts) h = (h.0, all_bare_unlabelled ts h.1)
+    bare_unlabelled (entity (block named label arguments) ts) h = (h.0, all_bare_unlabelled ts h.1)
 
     all_bare_unlabelled : (ts : Entities N) → AreBareTrees ts → AreBareTrees (all_unlabelled ts)
     all_bare_unlabelled no_entity h = tt
@@ -222,14 +225,14 @@ module _ {N : Type 0} where
 
   mutual
     pub unlabelled_bare : (t : Entity N) → IsBareTree (unlabelled t) → IsBareTree t
-    unlabelled_bare (entity (operation kind results used pieces) ts) h = (h.0, all_unlabelled_bare ts h.1)
+    unlabelled_bare (entity (operation kind results used successors pieces) ts) h = (h.0, all_unlabelled_bare ts h.1)
     unlabelled_bare (entity a_region ts) h = (tt, all_unlabelled_bare ts h.1)
-    unlabelled_bare (entity (block label arguments) ts) h = (h.0, all_unlabelled_bare ts h.1)
+    unlabelled_bare (entity (block named label arguments) ts) h = (h.0, all_unlabelled_bare ts h.1)
 
     all_unlabelled_bare : (ts : Entities N) → AreBareTrees (all_unlabelled ts) → AreBareTrees ts
     all_unlabelled_bare no_entity h = tt
     all_unlabelled_bare (an_entity t ts) h = (unlabelled_bare t h.0, all_unlabelled_bare ts h.1)
 
 -- the printed tree is bare where the tree is that it prints
-pub printed_bare : (g : ℕ → List ℕ) (printed : Entity (List ℕ)) (t : Entity ℕ) → unlabelled printed ≡ unlabelled (renamed g t) → IsBareTree t → IsBareTree printed
-printed_bare g printed t same h = unlabelled_bare printed (subst IsBareTree (sym same) (bare_unlabelled (renamed g t) (bare_renamed g t h)))
+pub printed_bare : (g b : ℕ → List ℕ) (printed : Entity (List ℕ)) (t : Entity ℕ) → unlabelled printed ≡ unlabelled (renamed g b t) → IsBareTree t → IsBareTree printed
+printed_bare g b printed t same h = unlabelled_bare printed (subst IsBareTree (sym same) (bare_unlabelled (renamed g b t) (bare_renamed g b t h)))

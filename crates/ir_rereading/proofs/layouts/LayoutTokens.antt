@@ -8,7 +8,7 @@ use Rattle.ir_names.specs.Text.{is_identifier}
 use Rattle.ir_print.specs.Formats as step
 use Rattle.ir_print.specs.Formats.{Formats, Kind, Step, Steps, no_steps}
 use Rattle.ir_print.specs.Layout.{Before, an_id, a_word, a_part, gap_of_word, gap_of_part, line}
-use Rattle.ir_print.specs.Pieces.{type_of_kind, attribute_of_kind, list, item, operands, region, name, number, width, ValueTree, Pieces, Values, EntityHead, operation, a_region, block, Entity, entity, Entities, no_entity, an_entity}
+use Rattle.ir_print.specs.Pieces.{type_of_kind, attribute_of_kind, list, item, operands, successor, region, name, number, width, ValueTree, Pieces, Values, EntityHead, operation, a_region, block, Entity, entity, Entities, no_entity, an_entity}
 use Rattle.ir_print.specs.Shapes.{parts_in, Fits, FitAll, FitMembers, FitsMember, FitArguments}
 use Rattle.ir_grammar.specs.declared.grammar.Action.{Action}
 use Rattle.ir_grammar.specs.declared.grammar.Action.TheVariants as act
@@ -17,7 +17,7 @@ use Rattle.ir_tokens.specs.Tokens.{is_sign, ReadsAs}
 use Rattle.ir_formats.specs.Words.{text_of}
 use Rattle.ir_rereading.specs.Printable.{is_word, less_spaces, is_before_spaces, is_printed, begins_apart, ends_apart, BoundaryBefore, apart, behind, part, may_follow, may_take, is_step_apart, are_steps_apart, is_kind_printable, is_printable}
 use Rattle.ir_forest.specs.Closed.{names_of, FitsHead, FitsTree, FitTrees}
-use Rattle.ir_rereading.proofs.layouts.Marks.{Mark, white, token, word, did, characters, tokens, Marker, part_on, format_on, kind_on, more_members_on, members_on, piece_on, parts_on, type_on, more_names_on, names_on, results_on, operands_on, first_region_on, all_parts_on, operation_head_on, argument_on, more_arguments_on, arguments_on, block_head_on, operation_on, regions_on, region_on, blocks_on, block_on, operations_on, more_operations_on, marks, sort_of, AreIdentifiers, IsSpeltHead, IsSpelt, AreSpelt}
+use Rattle.ir_rereading.proofs.layouts.Marks.{Mark, white, token, word, did, characters, tokens, Marker, part_on, format_on, kind_on, more_members_on, members_on, piece_on, parts_on, type_on, more_names_on, names_on, results_on, operands_on, first_region_on, edge_on, all_parts_on, operation_head_on, argument_on, more_arguments_on, arguments_on, block_head_on, operation_on, regions_on, region_on, blocks_on, block_on, operations_on, more_operations_on, marks, sort_of, AreIdentifiers, IsSpeltHead, IsSpelt, AreSpelt}
 use Rattle.ir_rereading.proofs.layouts.Lexemes as lexemes
 use Rattle.ir_rereading.proofs.layouts.Lexemes.{clash, ended, Lexes, placed_all, lexes_ascii}
 use Rattle.ir_rereading.proofs.layouts.LexedWords.{Opens, Follows, IsLexeme, lexeme_opens, sign_opens, sign_follows, blank_follows, spaces_open, identifier_is, number_is, width_is, word_is, Behind, word_opens, word_clean}
@@ -240,6 +240,11 @@ lex_operands : (s : Step) (xs : List (List ℕ)) → AreIdentifiers xs → IsMar
 lex_operands s [] h = tt
 lex_operands s (x ∷ xs) h = λ a rest k. acted (lex_names act.Operand (x ∷ xs) _ h (done k))
 
+lex_edge : (s : Step) (ls us : List (List ℕ)) → AreIdentifiers ls → AreIdentifiers us → IsMarked s (Some (edge_on ls us))
+lex_edge s [] us h g = λ a rest k. loose k
+lex_edge s (l ∷ ls) us h g = λ a rest k.
+    loose (signed 94 refl (lexeme l (identifier_is l h.0) (done (signed 40 refl (lex_names act.Operand us _ g (signed 41 refl (loose (done k))))))))
+
 take_names : (n : ℕ) (xs : List (List ℕ)) → AreIdentifiers xs → AreIdentifiers (take n xs)
 take_names zero xs h = tt
 take_names (suc n) [] h = tt
@@ -292,6 +297,7 @@ module _ (f : Formats) (v : Values) (printable : is_printable f ≡ true) where
     lex_piece (node list ts) _ h a rest k = absurd h
     lex_piece (node item ts) s h a rest k = absurd h
     lex_piece (node (operands n) ts) s h a rest k = loose k
+    lex_piece (node (successor n) ts) s h a rest k = loose k
     lex_piece (node region ts) s h a rest k = loose k
     lex_piece (node (name cs) ts) step.symbol_name h a rest k = loose (signed 64 refl (lexeme cs (identifier_is cs h.1) (done k)))
     lex_piece (node (name cs) ts) step.a_name h a rest k = lexeme cs (identifier_is cs h.1) (done k)
@@ -320,13 +326,16 @@ module _ (f : Formats) (v : Values) (printable : is_printable f ≡ true) where
 
   -- ---- heads
 
-  lex_all_parts : (ts : Pieces) (ss : List Step) (us : List (List ℕ)) (rs : List (List Mark → List Mark)) → FitAll f v ss ts → AreIdentifiers us → AllNext rs → AreMarked ss (all_parts_on f ts us rs)
-  lex_all_parts no_tree [] us rs h u r = tt
-  lex_all_parts no_tree (s ∷ ss) us rs h u r = absurd h
-  lex_all_parts (a_tree t ts) [] us rs h u r = absurd h
-  lex_all_parts (a_tree (node (operands n) x) ts) (s ∷ ss) us rs h u r = (lex_operands s (take n us) (take_names n us u), lex_all_parts ts ss (drop n us) rs h.1 (drop_names n us u) r)
-  lex_all_parts (a_tree (node region x) ts) (s ∷ ss) us rs h u r = (lex_first s rs r, lex_all_parts ts ss us (drop 1 rs) h.1 u (drop_next 1 rs r))
-  lex_all_parts (a_tree (node p x) ts) (s ∷ ss) us rs h u r = (lex_piece (node p x) s h.0, lex_all_parts ts ss us rs h.1 u r)
+  lex_all_parts : (ts : Pieces) (ss : List Step) (us ls : List (List ℕ)) (rs : List (List Mark → List Mark)) → FitAll f v ss ts → AreIdentifiers us → AreIdentifiers ls → AllNext rs
+      → AreMarked ss (all_parts_on f ts us ls rs)
+  lex_all_parts no_tree [] us ls rs h u l r = tt
+  lex_all_parts no_tree (s ∷ ss) us ls rs h u l r = absurd h
+  lex_all_parts (a_tree t ts) [] us ls rs h u l r = absurd h
+  lex_all_parts (a_tree (node (operands n) x) ts) (s ∷ ss) us ls rs h u l r = (lex_operands s (take n us) (take_names n us u), lex_all_parts ts ss (drop n us) ls rs h.1 (drop_names n us u) l r)
+  lex_all_parts (a_tree (node (successor n) x) ts) (s ∷ ss) us ls rs h u l r =
+      (lex_edge s ls (take n us) l (take_names n us u), lex_all_parts ts ss (drop n us) (drop 1 ls) rs h.1 (drop_names n us u) (drop_names 1 ls l) r)
+  lex_all_parts (a_tree (node region x) ts) (s ∷ ss) us ls rs h u l r = (lex_first s rs r, lex_all_parts ts ss us ls (drop 1 rs) h.1 u l (drop_next 1 rs r))
+  lex_all_parts (a_tree (node p x) ts) (s ∷ ss) us ls rs h u l r = (lex_piece (node p x) s h.0, lex_all_parts ts ss us ls rs h.1 u l r)
 
   lex_argument : (x : List ℕ × ValueTree) (rest : List Mark) → is_identifier x.0 ≡ true → Fits f v step.a_type x.1 → IsNext rest → IsLexed (argument_on f x rest)
   lex_argument x rest h g k = lexeme x.0 (identifier_is x.0 h) (done (sign_word 58 refl (lex_type x.1 rest g k)))
@@ -340,18 +349,18 @@ module _ (f : Formats) (v : Values) (printable : is_printable f ≡ true) where
   lex_arguments (x ∷ xs) rest h g k = lex_argument x _ h.0 g.0 (lex_more_arguments xs rest h.1 g.1 k)
 
   lex_operation_head : (h : EntityHead (List ℕ)) (rs : List (List Mark → List Mark)) (rest : List Mark) → FitsHead f v h → IsSpeltHead h → AllNext rs → IsNext rest → IsLexed (operation_head_on f h rs rest)
-  lex_operation_head (operation kind results used pieces) rs rest g s r k =
+  lex_operation_head (operation kind results used successors pieces) rs rest g s r k =
       lex_results results _ s.0 (lex_found _ g.0 (act.Operation kind) act.EndOperation _ rest g.1 (kind_at f.operations kind g.0 printable_operations g.1)
-      (lex_all_parts pieces (parts_in g.0.format) used rs g.2 s.1 r) k)
+      (lex_all_parts pieces (parts_in g.0.format) used successors rs g.2 s.1 s.2 r) k)
   lex_operation_head a_region rs rest g s r k = loose k
-  lex_operation_head (block label arguments) rs rest g s r k = loose k
+  lex_operation_head (block named label arguments) rs rest g s r k = loose k
 
   lex_block_head : (h : EntityHead (List ℕ)) (inner : List Mark → List Mark) (rest : List Mark) → FitsHead f v h → IsSpeltHead h → ((r : List Mark) → IsNext r → IsNext (inner r)) → IsNext rest
       → IsLexed (block_head_on f h inner rest)
-  lex_block_head (operation kind results used pieces) inner rest g s i k = loose (i rest k)
+  lex_block_head (operation kind results used successors pieces) inner rest g s i k = loose (i rest k)
   lex_block_head a_region inner rest g s i k = loose (i rest k)
-  lex_block_head (block label arguments) inner rest g s i k =
-      loose (signed 94 refl (lexeme label (identifier_is label s.0) (done (signed 40 refl (lex_arguments arguments _ s.1 g
+  lex_block_head (block named label arguments) inner rest g s i k =
+      loose (signed 94 refl (lexeme label (identifier_is label s.1) (done (signed 40 refl (lex_arguments arguments _ s.2 g
       (signed 41 refl (loose (signed 58 refl (acted (loose (i _ (done k))))))))))))
 
   -- ---- operations, regions and blocks

@@ -5,7 +5,7 @@ use Rattle.ir_names.specs.Tree.{Trees, node, no_tree, a_tree, join}
 use Rattle.ir_print.specs.Formats as step
 use Rattle.ir_print.specs.Formats.{Formats, Kind, Steps}
 use Rattle.ir_print.specs.Layout.{line}
-use Rattle.ir_print.specs.Pieces.{type_of_kind, attribute_of_kind, list, item, operands, region, name, number, width, ValueTree, Pieces, Values, operation, a_region, block, Entity, entity, Entities, no_entity, an_entity}
+use Rattle.ir_print.specs.Pieces.{type_of_kind, attribute_of_kind, list, item, operands, successor, region, name, number, width, ValueTree, Pieces, Values, operation, a_region, block, Entity, entity, Entities, no_entity, an_entity}
 use Rattle.ir_print.specs.Shapes.{parts_in, Fits, FitArguments}
 use Rattle.ir_forest.specs.Closed.{IsOperation, AreRegions, IsRegion, AreBlocks, IsBlock, AreOperations, FitsTree, FitTrees}
 use Rattle.ir_grammar.specs.declared.grammar.Action.TheVariants as act
@@ -17,14 +17,14 @@ use Rattle.ir_rereading.proofs.layouts.LayoutParts.{AreFine, HaveTexts, Gives, R
 use Rattle.ir_rereading.proofs.layouts.LayoutValues.{IsPlain, join_none, kind_at_read, parts_read, here}
 use Rattle.ir_rereading.proofs.layouts.LayoutOperations.{ArePlainArguments, IsPlainTree, ArePlainTrees, RegionsRead, all_parts_read}
 use Rattle.ir_rereading.proofs.layouts.LayoutEntities.{SaysArguments, no_arguments, more_arguments, argument_says, SaysEntities, none_said, more_said, SaysAllEntities, say_all_entities, SaysBody, body_says, block_says, region_says, operation_says, results_read}
-use Rattle.ir_rereading.proofs.layouts.Marks.{Mark, white, token, word, did, tokens, events, kind_on, type_on, parts_on, results_on, all_parts_on, argument_on, more_arguments_on, arguments_on, operation_on, regions_on, region_on, blocks_on, block_on, operations_on, more_operations_on, marks}
+use Rattle.ir_rereading.proofs.layouts.Marks.{Mark, white, token, word, did, tokens, events, kind_on, type_on, parts_on, results_on, all_parts_on, argument_on, more_arguments_on, arguments_on, operation_on, regions_on, region_on, blocks_on, block_on, operations_on, more_operations_on, marks, IsSpelt, AreSpelt}
 
 module _ (f : Formats) (v : Values) (text : ℕ → List ℕ) where
   -- ---- arguments
 
   -- one tree that says a type
   abbrev IsType : ℕ → Pieces → Trees ActionSpan → Type 0
-  IsType n ts xs = (i : ℕ) × IsNode (act.BeginType n) i (Says v text ts [] no_entity) xs
+  IsType n ts xs = (i : ℕ) × IsNode (act.BeginType n) i (Says v text ts [] [] no_entity) xs
 
   typed_read : (cs : List ℕ) (t : ValueTree) → Fits f v step.a_type t → IsPlain t
       → Reads text (SaysArguments v text ((cs, t) ∷ [])) (λ rest. token cs ∷ did act.Argument ∷ word (codes ": ") (codes ":") ∷ type_on f t rest)
@@ -32,7 +32,7 @@ module _ (f : Formats) (v : Values) (text : ℕ → List ℕ) where
       let t = node (type_of_kind n) ts in
       let mid = word (codes ": ") (codes ":") ∷ type_on f t rest in
       let read : Reads text (IsType n ts) (kind_on (slice_get f.types n) (act.BeginType n) act.EndType (parts_on f ts)) =
-      kind_at_read f v text (slice_get f.types n) fit.1 fit.2 (act.BeginType n) act.EndType refl ts [] no_entity (parts_on f ts) (parts_read f v text ts (parts_in fit.1.format) fit.3 plain) (IsType n ts) (λ i xs q. (i, q)) in
+      kind_at_read f v text (slice_get f.types n) fit.1 fit.2 (act.BeginType n) act.EndType refl ts [] [] no_entity (parts_on f ts) (parts_read f v text ts (parts_in fit.1.format) fit.3 plain) (IsType n ts) (λ i xs q. (i, q)) in
       taken text k (did act.Argument ∷ mid) rest cs
       (then text (k + 1) (did act.Argument ∷ mid) mid rest (λ ys zs l q. argument_says v text cs n (k + 1 - 1) q.0 ts ys zs (here v text k cs h.0) fit.4 l q.1)
       (single text act.Argument refl (k + 1) mid h.1)
@@ -41,6 +41,7 @@ module _ (f : Formats) (v : Values) (text : ℕ → List ℕ) where
   typed_read cs (node list ts) fit plain k rest h = absurd fit
   typed_read cs (node item ts) fit plain k rest h = absurd fit
   typed_read cs (node (operands n) ts) fit plain k rest h = absurd plain
+  typed_read cs (node (successor n) ts) fit plain k rest h = absurd plain
   typed_read cs (node region ts) fit plain k rest h = absurd plain
   typed_read cs (node (name x) ts) fit plain k rest h = absurd fit.0
   typed_read cs (node (number negative magnitude) ts) fit plain k rest h = let e = fit.0 in cc
@@ -73,54 +74,54 @@ module _ (f : Formats) (v : Values) (text : ℕ → List ℕ) where
   IsEnded es zs = (ys : Trees ActionSpan) × (ws : Trees ActionSpan) × (i : ℕ) × (zs ≡ join ys ws) × IsLeaf act.Header i ys × SaysEntities v text (operations_in v text []) es ws
 
   mutual
-    pub operation_read : (t : Entity (List ℕ)) (n : ℕ) → FitsTree f v t → IsPlainTree t → IsOperation v t → Reads text (IsOneOperation t) (operation_on f n t)
-    operation_read (entity (operation kind results used pieces) ts) n fit plain is = λ k rest h.
+    pub operation_read : (t : Entity (List ℕ)) (n : ℕ) → FitsTree f v t → IsPlainTree t → IsOperation v t → IsSpelt t → Reads text (IsOneOperation t) (operation_on f n t)
+    operation_read (entity (operation kind results used successors pieces) ts) n fit plain is named = λ k rest h.
         let c = fit.0.0 in
-        let t = entity (operation kind results used pieces) ts in
+        let t = entity (operation kind results used successors pieces) ts in
         let ms = regions_on f n ts in
-        let mid = kind_on (slice_get f.operations kind) (act.Operation kind) act.EndOperation (all_parts_on f pieces used ms) rest in
+        let mid = kind_on (slice_get f.operations kind) (act.Operation kind) act.EndOperation (all_parts_on f pieces used successors ms) rest in
         then text k (results_on results mid) mid rest
-        (λ xs ys a b. operation_says v text kind b.0 results used pieces ts xs ys fit.0.3 is.0 a b.1)
+        (λ xs ys a b. operation_says v text kind b.0 results used successors pieces ts xs ys fit.0.3 is.0 a b.1)
         (results_read v text results k mid h)
-        (λ m g. kind_at_read f v text (slice_get f.operations kind) c fit.0.1 (act.Operation kind) act.EndOperation refl pieces used ts (all_parts_on f pieces used ms)
-        (all_parts_read f v text pieces (parts_in c.format) used ts ms fit.0.2 plain.0 fit.0.4 is.1 (regions_read ts n fit.1 plain.1 is.2))
-        (λ xs. (i : ℕ) × IsNode (act.Operation kind) i (Says v text pieces used ts) xs) (λ i xs q. (i, q)) m rest g)
-    operation_read (entity a_region ts) n fit plain is = absurd is
-    operation_read (entity (block label arguments) ts) n fit plain is = absurd is
+        (λ m g. kind_at_read f v text (slice_get f.operations kind) c fit.0.1 (act.Operation kind) act.EndOperation refl pieces used successors ts (all_parts_on f pieces used successors ms)
+        (all_parts_read f v text pieces (parts_in c.format) used successors ts ms fit.0.2 plain.0 fit.0.4 is.2 is.1 (regions_read ts n fit.1 plain.1 is.3 named.1))
+        (λ xs. (i : ℕ) × IsNode (act.Operation kind) i (Says v text pieces used successors ts) xs) (λ i xs q. (i, q)) m rest g)
+    operation_read (entity a_region ts) n fit plain is named = absurd is
+    operation_read (entity (block own label arguments) ts) n fit plain is named = absurd is
 
-    regions_read : (ts : Entities (List ℕ)) (n : ℕ) → FitTrees f v ts → ArePlainTrees ts → AreRegions v ts → RegionsRead f v text ts (regions_on f n ts)
-    regions_read no_entity n fit plain is = tt
-    regions_read (an_entity t ts) n fit plain is = (region_read t n fit.0 plain.0 is.0, regions_read ts n fit.1 plain.1 is.1)
+    regions_read : (ts : Entities (List ℕ)) (n : ℕ) → FitTrees f v ts → ArePlainTrees ts → AreRegions v ts → AreSpelt ts → RegionsRead f v text ts (regions_on f n ts)
+    regions_read no_entity n fit plain is named = tt
+    regions_read (an_entity t ts) n fit plain is named = (region_read t n fit.0 plain.0 is.0 named.0, regions_read ts n fit.1 plain.1 is.1 named.1)
 
-    region_read : (t : Entity (List ℕ)) (n : ℕ) → FitsTree f v t → IsPlainTree t → IsRegion v t
-        → Reads text (Says v text (a_tree (node region no_tree) no_tree) [] (an_entity t no_entity)) (region_on f n t)
-    region_read (entity (operation kind results used pieces) ts) n fit plain is = absurd is
-    region_read (entity a_region ts) n fit plain is = λ k rest h.
+    region_read : (t : Entity (List ℕ)) (n : ℕ) → FitsTree f v t → IsPlainTree t → IsRegion v t → IsSpelt t
+        → Reads text (Says v text (a_tree (node region no_tree) no_tree) [] [] (an_entity t no_entity)) (region_on f n t)
+    region_read (entity (operation kind results used successors pieces) ts) n fit plain is named = absurd is
+    region_read (entity a_region ts) n fit plain is named = λ k rest h.
         let last = white (line n) ∷ token (codes "}") ∷ did act.EndRegion ∷ rest in
         let inner = blocks_on f (n + 2) ts last in
         let g : Gives text (SaysEntities v text (blocks_in v text) ts) (k + 1) inner (did act.EndRegion ∷ rest) =
         then text (k + 1) inner last (did act.EndRegion ∷ rest)
         (λ xs ys a b. subst (λ z. SaysEntities v text (blocks_in v text) ts (join xs z)) (sym b) (subst (SaysEntities v text (blocks_in v text) ts) (sym (join_none xs)) a))
-        (blocks_read ts (n + 2) fit.1 plain.1 is (k + 1) last h.1)
+        (blocks_read ts (n + 2) fit.1 plain.1 is named.1 (k + 1) last h.1)
         (λ m g. spaced text m (token (codes "}") ∷ did act.EndRegion ∷ rest) (did act.EndRegion ∷ rest) (line n)
         (taken text m (did act.EndRegion ∷ rest) (did act.EndRegion ∷ rest) (codes "}") (nothing text (λ z. z ≡ no_tree) (m + 1) (did act.EndRegion ∷ rest) refl g.1))) in
         spaced text k (token (codes "{") ∷ did act.BeginRegion ∷ inner) rest (line n)
         (taken text k (did act.BeginRegion ∷ inner) rest (codes "{")
         (so text (k + 1) (did act.BeginRegion ∷ inner) rest (region_says v text ts (k + 1 - 1)) (between text act.BeginRegion act.EndRegion refl (k + 1) inner rest g)))
-    region_read (entity (block label arguments) ts) n fit plain is = absurd is
+    region_read (entity (block own label arguments) ts) n fit plain is named = absurd is
 
-    blocks_read : (ts : Entities (List ℕ)) (n : ℕ) → FitTrees f v ts → ArePlainTrees ts → AreBlocks v ts → Reads text (SaysEntities v text (blocks_in v text) ts) (blocks_on f n ts)
-    blocks_read no_entity n fit plain is = λ k rest h. nothing text (SaysEntities v text (blocks_in v text) no_entity) k rest (none_said v text (blocks_in v text)) h
-    blocks_read (an_entity t ts) n fit plain is = λ k rest h.
+    blocks_read : (ts : Entities (List ℕ)) (n : ℕ) → FitTrees f v ts → ArePlainTrees ts → AreBlocks v ts → AreSpelt ts → Reads text (SaysEntities v text (blocks_in v text) ts) (blocks_on f n ts)
+    blocks_read no_entity n fit plain is named = λ k rest h. nothing text (SaysEntities v text (blocks_in v text) no_entity) k rest (none_said v text (blocks_in v text)) h
+    blocks_read (an_entity t ts) n fit plain is named = λ k rest h.
         let mid = blocks_on f n ts rest in
         spaced text k (block_on f n t mid) rest (line n)
         (then text k (block_on f n t mid) mid rest (more_said v text (blocks_in v text) t ts)
-        (block_read t n fit.0 plain.0 is.0 k mid h) (λ m g. blocks_read ts n fit.1 plain.1 is.1 m rest g))
+        (block_read t n fit.0 plain.0 is.0 named.0 k mid h) (λ m g. blocks_read ts n fit.1 plain.1 is.1 named.1 m rest g))
 
-    block_read : (t : Entity (List ℕ)) (n : ℕ) → FitsTree f v t → IsPlainTree t → IsBlock v t → Reads text (IsOneBlock t) (block_on f n t)
-    block_read (entity (operation kind results used pieces) ts) n fit plain is = absurd is
-    block_read (entity a_region ts) n fit plain is = absurd is
-    block_read (entity (block label arguments) ts) n fit plain is = λ k rest h.
+    block_read : (t : Entity (List ℕ)) (n : ℕ) → FitsTree f v t → IsPlainTree t → IsBlock v t → IsSpelt t → Reads text (IsOneBlock t) (block_on f n t)
+    block_read (entity (operation kind results used successors pieces) ts) n fit plain is named = absurd is
+    block_read (entity a_region ts) n fit plain is named = absurd is
+    block_read (entity (block own label arguments) ts) n fit plain is named = λ k rest h.
         let last = did act.EndBlock ∷ rest in
         let inner = operations_on f (n + 2) ts last in
         let header = token (codes ")") ∷ token (codes ":") ∷ did act.Header ∷ inner in
@@ -129,7 +130,7 @@ module _ (f : Formats) (v : Values) (text : ℕ → List ℕ) where
         (taken text (m + 1) (did act.Header ∷ inner) last (codes ":")
         (then text (m + 1 + 1) (did act.Header ∷ inner) inner last (λ ys ws a b. (ys, ws, m + 1 + 1 - 1, refl, a, b))
         (single text act.Header refl (m + 1 + 1) inner g.1.1)
-        (λ o i. operations_read ts (n + 2) fit.1 plain.1 is o last i))) in
+        (λ o i. operations_read ts (n + 2) fit.1 plain.1 is named.1 o last i))) in
         let body : Gives text (SaysBody v text arguments ts) (k + 1 + 1) (token (codes "(") ∷ arguments_on f arguments header) last =
         taken text (k + 1 + 1) (arguments_on f arguments header) last (codes "(")
         (then text (k + 1 + 1 + 1) (arguments_on f arguments header) header last
@@ -138,25 +139,25 @@ module _ (f : Formats) (v : Values) (text : ℕ → List ℕ) where
         taken text k (token label ∷ did act.Label ∷ token (codes "(") ∷ arguments_on f arguments header) rest (codes "^")
         (taken text (k + 1) (did act.Label ∷ token (codes "(") ∷ arguments_on f arguments header) rest label
         (so text (k + 1 + 1) (did act.Label ∷ token (codes "(") ∷ arguments_on f arguments header) rest
-        (λ xs q. block_says v text label arguments ts (k + 1 + 1 - 1) xs (here v text (k + 1) label h.1.0) q)
+        (λ xs q. block_says v text own label arguments ts (k + 1 + 1 - 1) xs named.0.0 (here v text (k + 1) label h.1.0) q)
         (between text act.Label act.EndBlock refl (k + 1 + 1) (token (codes "(") ∷ arguments_on f arguments header) rest body)))
 
-    operations_read : (ts : Entities (List ℕ)) (n : ℕ) → FitTrees f v ts → ArePlainTrees ts → AreOperations v ts → Reads text (SaysEntities v text (operations_in v text []) ts) (operations_on f n ts)
-    operations_read no_entity n fit plain is = λ k rest h. nothing text (SaysEntities v text (operations_in v text []) no_entity) k rest (none_said v text (operations_in v text [])) h
-    operations_read (an_entity t ts) n fit plain is = λ k rest h.
+    operations_read : (ts : Entities (List ℕ)) (n : ℕ) → FitTrees f v ts → ArePlainTrees ts → AreOperations v ts → AreSpelt ts → Reads text (SaysEntities v text (operations_in v text []) ts) (operations_on f n ts)
+    operations_read no_entity n fit plain is named = λ k rest h. nothing text (SaysEntities v text (operations_in v text []) no_entity) k rest (none_said v text (operations_in v text [])) h
+    operations_read (an_entity t ts) n fit plain is named = λ k rest h.
         let mid = more_operations_on f n ts rest in
         spaced text k (operation_on f n t mid) rest (line n)
         (then text k (operation_on f n t mid) mid rest (more_said v text (operations_in v text []) t ts)
-        (operation_read t n fit.0 plain.0 is.0 k mid h) (λ m g. more_operations_read ts n fit.1 plain.1 is.1 m rest g))
+        (operation_read t n fit.0 plain.0 is.0 named.0 k mid h) (λ m g. more_operations_read ts n fit.1 plain.1 is.1 named.1 m rest g))
 
-    more_operations_read : (ts : Entities (List ℕ)) (n : ℕ) → FitTrees f v ts → ArePlainTrees ts → AreOperations v ts → Reads text (SaysEntities v text (operations_in v text []) ts) (more_operations_on f n ts)
-    more_operations_read no_entity n fit plain is = λ k rest h. nothing text (SaysEntities v text (operations_in v text []) no_entity) k rest (none_said v text (operations_in v text [])) h
-    more_operations_read (an_entity t ts) n fit plain is = λ k rest h.
+    more_operations_read : (ts : Entities (List ℕ)) (n : ℕ) → FitTrees f v ts → ArePlainTrees ts → AreOperations v ts → AreSpelt ts → Reads text (SaysEntities v text (operations_in v text []) ts) (more_operations_on f n ts)
+    more_operations_read no_entity n fit plain is named = λ k rest h. nothing text (SaysEntities v text (operations_in v text []) no_entity) k rest (none_said v text (operations_in v text [])) h
+    more_operations_read (an_entity t ts) n fit plain is named = λ k rest h.
         let mid = more_operations_on f n ts rest in
         taken text k (white (line n) ∷ operation_on f n t mid) rest (codes ";")
         (spaced text (k + 1) (operation_on f n t mid) rest (line n)
         (then text (k + 1) (operation_on f n t mid) mid rest (more_said v text (operations_in v text []) t ts)
-        (operation_read t n fit.0 plain.0 is.0 (k + 1) mid h.1) (λ m g. more_operations_read ts n fit.1 plain.1 is.1 m rest g)))
+        (operation_read t n fit.0 plain.0 is.0 named.0 (k + 1) mid h.1) (λ m g. more_operations_read ts n fit.1 plain.1 is.1 named.1 m rest g)))
 
 -- ---- the whole layout
 
@@ -185,9 +186,9 @@ fine_sound : (v : Values) (text : ℕ → List ℕ) (names : List ℕ) (ts : Tre
 fine_sound v text names no_tree h = tt
 fine_sound v text names (a_tree (node s ts) rest) h = (h.1, fine_sound v text [] ts h.3, fine_sound v text (with_name names s.action s.first) rest h.4)
 
-one_renamed : (text : ℕ → List ℕ) (es : Entities ℕ) (t : Entity (List ℕ)) → all_renamed text es ≡ an_entity t no_entity → (tree : Entity ℕ) × (es ≡ an_entity tree no_entity) × (renamed text tree ≡ t)
+one_renamed : (text : ℕ → List ℕ) (es : Entities ℕ) (t : Entity (List ℕ)) → all_renamed text text es ≡ an_entity t no_entity → (tree : Entity ℕ) × (es ≡ an_entity tree no_entity) × (renamed text text tree ≡ t)
 one_renamed text no_entity t h = cc
-one_renamed text (an_entity e no_entity) t h = let same : renamed text e ≡ t = cc in (e, refl, same)
+one_renamed text (an_entity e no_entity) t h = let same : renamed text text e ≡ t = cc in (e, refl, same)
 one_renamed text (an_entity e (an_entity d ds)) t h = cc
 
 -- what reading a layout builds
@@ -196,18 +197,18 @@ pub record Builds (v : Values) (t : Entity (List ℕ)) (text : ℕ → List ℕ)
   pub done : deeds (events ms) ≡ deeds_in forest
   pub says : SaysAllEntities v text (operations_in v text []) (an_entity t no_entity) forest
 
-pub layout_builds : (f : Formats) (v : Values) (t : Entity (List ℕ)) (text : ℕ → List ℕ) → FitsTree f v t → IsPlainTree t → IsOperation v t → HasTexts text (marks f t) → Builds v t text (marks f t)
-layout_builds f v t text fit plain is h =
+pub layout_builds : (f : Formats) (v : Values) (t : Entity (List ℕ)) (text : ℕ → List ℕ) → FitsTree f v t → IsPlainTree t → IsOperation v t → IsSpelt t → HasTexts text (marks f t) → Builds v t text (marks f t)
+layout_builds f v t text fit plain is named h =
     let none : (j : ℕ) → 0 + j ≡ j = λ j. omega arith in
-    let g = operation_read f v text t 0 fit plain is 0 [] (have_texts text (marks f t) 0 (λ j x e. ap text (none j) ∙ h j x e)) in record {
+    let g = operation_read f v text t 0 fit plain is named 0 [] (have_texts text (marks f t) 0 (λ j x e. ap text (none j) ∙ h j x e)) in record {
       forest = g.trees;
       done = g.done ∙ append-nil (deeds_in g.trees);
       says = say_all_entities v text (operations_in v text []) (an_entity t no_entity) g.trees refl g.is;
     }
 
-pub layout_tree : (f : Formats) (v : Values) (t : Entity (List ℕ)) (text : ℕ → List ℕ) → FitsTree f v t → IsPlainTree t → IsOperation v t → HasTexts text (marks f t)
-    → (forest : Trees ActionSpan) × (tree : Entity ℕ) × IsForestOf (events (marks f t)) forest × (operations_in v text [] forest ≡ an_entity tree no_entity) × (renamed text tree ≡ t) × AreSound v text forest
-layout_tree f v t text fit plain is h =
-    let b = layout_builds f v t text fit plain is h in
+pub layout_tree : (f : Formats) (v : Values) (t : Entity (List ℕ)) (text : ℕ → List ℕ) → FitsTree f v t → IsPlainTree t → IsOperation v t → IsSpelt t → HasTexts text (marks f t)
+    → (forest : Trees ActionSpan) × (tree : Entity ℕ) × IsForestOf (events (marks f t)) forest × (operations_in v text [] forest ≡ an_entity tree no_entity) × (renamed text text tree ≡ t) × AreSound v text forest
+layout_tree f v t text fit plain is named h =
+    let b = layout_builds f v t text fit plain is named h in
     let r = one_renamed text (operations_in v text [] b.forest) t b.says.entities in
     (b.forest, r.0, (fine_whole v text [] b.forest b.says.fine, b.done), r.1, r.2, fine_sound v text [] b.forest b.says.fine)

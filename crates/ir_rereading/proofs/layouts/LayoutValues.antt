@@ -5,12 +5,12 @@ use Rattle.ir_names.specs.Tree.{Trees, node, no_tree, a_tree, join}
 use Rattle.ir_print.specs.Formats as step
 use Rattle.ir_print.specs.Formats.{Formats, Kind, Steps, no_steps}
 use Rattle.ir_print.specs.Layout.{a_word, member_of, number_text, width_text, AreFlat, AreShallow, Deeper}
-use Rattle.ir_print.specs.Pieces.{type_of_kind, attribute_of_kind, list, item, operands, region, name, number, width, ValueTree, Pieces, Values, Entities, no_entity}
+use Rattle.ir_print.specs.Pieces.{type_of_kind, attribute_of_kind, list, item, operands, successor, region, name, number, width, ValueTree, Pieces, Values, Entities, no_entity}
 use Rattle.ir_print.specs.Shapes.{parts_in, IsListOf, TakesName, Fits, FitAll, FitMembers, FitsMember}
 use Rattle.ir_grammar.specs.declared.grammar.Action.{Action}
 use Rattle.ir_grammar.specs.declared.grammar.Action.TheVariants as act
 use Rattle.ir_forest.specs.Forest.{end_of, ActionSpan}
-use Rattle.ir_forest.specs.Meaning.{number_in, width_in, pieces_in, operands_in, regions_in, all_renamed}
+use Rattle.ir_forest.specs.Meaning.{number_in, width_in, pieces_in, operands_in, successors_in, regions_in, all_renamed}
 use Rattle.ir_rereading.proofs.layouts.LayoutNumbers.{number_again, width_again}
 use Rattle.ir_rereading.proofs.layouts.LayoutParts.{joined_none, AreLow, AreFine, HaveTexts, Gives, Reads, so, then, taken, worded, nothing, IsNode, IsLeaf, between, single, Says, says_none, says_more, AreRead, format_read, kind_read}
 use Rattle.ir_rereading.proofs.layouts.Marks.{token, did, Marker, format_on, kind_on, name_on, members_on, more_members_on, piece_on, parts_on}
@@ -18,13 +18,14 @@ use Rattle.ir_rereading.proofs.layouts.Marks.{token, did, Marker, format_on, kin
 -- ---- what is printed whole
 
 abbrev mutual
-  -- a type, an attribute, or a part of one: neither operands nor regions stand in it, and nothing stands below its names and numbers
+  -- a type, an attribute, or a part of one: no operands, edges and regions stand in it, and nothing stands below its names and numbers
   pub IsPlain : ValueTree → Type 0
   IsPlain (node (type_of_kind n) ts) = ArePlain ts
   IsPlain (node (attribute_of_kind n) ts) = ArePlain ts
   IsPlain (node list ts) = ArePlain ts
   IsPlain (node item ts) = ArePlain ts
   IsPlain (node (operands n) ts) = ⊥
+  IsPlain (node (successor n) ts) = ⊥
   IsPlain (node region ts) = ⊥
   IsPlain (node (name cs) ts) = ts ≡ no_tree
   IsPlain (node (number negative magnitude) ts) = ts ≡ no_tree
@@ -47,71 +48,77 @@ deeper P Q d zero s p f = absurd p
 deeper P Q d (suc e) s p f = (omega (arith, s), f (d + 1) e (omega (arith, s)) p)
 
 -- what trees say that are all there are
-pub record SaysAll (v : Values) (text : ℕ → List ℕ) (ps : Pieces) (us : List (List ℕ)) (rs : Entities (List ℕ)) (xs : Trees ActionSpan) : Type 0 where
+pub record SaysAll (v : Values) (text : ℕ → List ℕ) (ps : Pieces) (us ls : List (List ℕ)) (rs : Entities (List ℕ)) (xs : Trees ActionSpan) : Type 0 where
   pub fine : AreFine v text [] xs
   pub pieces : pieces_in v text xs ≡ ps
   pub operands : map text (operands_in xs) ≡ us
-  pub regions : all_renamed text (regions_in v text xs) ≡ rs
+  pub successors : map text (successors_in xs) ≡ ls
+  pub regions : all_renamed text text (regions_in v text xs) ≡ rs
   pub low : (d e : ℕ) → d + e ≡ 64 → AreFlat e ps → AreShallow e rs → AreLow d xs
 
-pub say_all : (v : Values) (text : ℕ → List ℕ) (ps : Pieces) (us : List (List ℕ)) (rs : Entities (List ℕ)) (xs : Trees ActionSpan) → Says v text ps us rs xs → SaysAll v text ps us rs xs
-say_all v text ps us rs xs s =
+pub say_all : (v : Values) (text : ℕ → List ℕ) (ps : Pieces) (us ls : List (List ℕ)) (rs : Entities (List ℕ)) (xs : Trees ActionSpan) → Says v text ps us ls rs xs → SaysAll v text ps us ls rs xs
+say_all v text ps us ls rs xs s =
     let same = join_none xs in record {
       fine = subst (AreFine v text []) same (s.fine no_tree tt);
       pieces = ap (pieces_in v text) (sym same) ∙ (s.pieces no_tree ∙ join_none ps);
       operands = ap (λ z. map text (operands_in z)) (sym same) ∙ (s.operands no_tree ∙ append-nil us);
-      regions = ap (λ z. all_renamed text (regions_in v text z)) (sym same) ∙ (s.regions no_tree ∙ joined_none rs);
+      successors = ap (λ z. map text (successors_in z)) (sym same) ∙ (s.successors no_tree ∙ append-nil ls);
+      regions = ap (λ z. all_renamed text text (regions_in v text z)) (sym same) ∙ (s.regions no_tree ∙ joined_none rs);
       low = λ d e h f g. subst (AreLow d) same (s.low d e h f g no_tree tt);
     }
 
 module _ (v : Values) (text : ℕ → List ℕ) where
-  -- these trees say this piece, no operands and no regions
+  -- these trees say this piece, no operands, no edges and no regions
   abbrev pub SaysOne : ValueTree → Trees ActionSpan → Type 0
-  SaysOne t xs = Says v text (a_tree t no_tree) [] no_entity xs
+  SaysOne t xs = Says v text (a_tree t no_tree) [] [] no_entity xs
 
   -- ---- pieces with others in them
 
-  pub type_says : (n i : ℕ) (ts : Pieces) (xs : Trees ActionSpan) → v.refused_type n ts ≡ None → IsNode (act.BeginType n) i (Says v text ts [] no_entity) xs → SaysOne (node (type_of_kind n) ts) xs
+  pub type_says : (n i : ℕ) (ts : Pieces) (xs : Trees ActionSpan) → v.refused_type n ts ≡ None → IsNode (act.BeginType n) i (Says v text ts [] [] no_entity) xs → SaysOne (node (type_of_kind n) ts) xs
   type_says n i ts xs fit q =
-      let a = say_all v text ts [] no_entity q.1 q.3 in
+      let a = say_all v text ts [] [] no_entity q.1 q.3 in
       subst (SaysOne (node (type_of_kind n) ts)) (sym q.2) (record {
         fine = λ rest h. (tt, ap (v.refused_type n) a.pieces ∙ fit, tt, a.fine, h);
         pieces = λ rest. ap (λ z. a_tree (node (type_of_kind n) z) (pieces_in v text rest)) a.pieces;
         operands = λ rest. refl;
+        successors = λ rest. refl;
         regions = λ rest. refl;
         low = λ d e s f g rest h. let r = deeper (λ e. AreFlat e ts) (λ d. AreLow d q.1) d e s f.0 (λ d e s f. a.low d e s f tt) in (λ w. r.0, r.1, h);
       })
 
-  pub attribute_says : (n i : ℕ) (ts : Pieces) (xs : Trees ActionSpan) → v.refused_attribute n ts ≡ None → v.canonical n ts ≡ ts → IsNode (act.BeginAttribute n) i (Says v text ts [] no_entity) xs
+  pub attribute_says : (n i : ℕ) (ts : Pieces) (xs : Trees ActionSpan) → v.refused_attribute n ts ≡ None → v.canonical n ts ≡ ts → IsNode (act.BeginAttribute n) i (Says v text ts [] [] no_entity) xs
       → SaysOne (node (attribute_of_kind n) ts) xs
   attribute_says n i ts xs fit canonical q =
-      let a = say_all v text ts [] no_entity q.1 q.3 in
+      let a = say_all v text ts [] [] no_entity q.1 q.3 in
       subst (SaysOne (node (attribute_of_kind n) ts)) (sym q.2) (record {
         fine = λ rest h. (tt, ap (v.refused_attribute n) a.pieces ∙ fit, tt, a.fine, h);
         pieces = λ rest. ap (λ z. a_tree (node (attribute_of_kind n) z) (pieces_in v text rest)) (ap (v.canonical n) a.pieces ∙ canonical);
         operands = λ rest. refl;
+        successors = λ rest. refl;
         regions = λ rest. refl;
         low = λ d e s f g rest h. let r = deeper (λ e. AreFlat e ts) (λ d. AreLow d q.1) d e s f.0 (λ d e s f. a.low d e s f tt) in (λ w. r.0, r.1, h);
       })
 
-  pub list_says : (i : ℕ) (ts : Pieces) (xs : Trees ActionSpan) → IsNode act.BeginList i (Says v text ts [] no_entity) xs → SaysOne (node list ts) xs
+  pub list_says : (i : ℕ) (ts : Pieces) (xs : Trees ActionSpan) → IsNode act.BeginList i (Says v text ts [] [] no_entity) xs → SaysOne (node list ts) xs
   list_says i ts xs q =
-      let a = say_all v text ts [] no_entity q.1 q.3 in
+      let a = say_all v text ts [] [] no_entity q.1 q.3 in
       subst (SaysOne (node list ts)) (sym q.2) (record {
         fine = λ rest h. (tt, refl, tt, a.fine, h);
         pieces = λ rest. ap (λ z. a_tree (node list z) (pieces_in v text rest)) a.pieces;
         operands = λ rest. refl;
+        successors = λ rest. refl;
         regions = λ rest. refl;
         low = λ d e s f g rest h. (λ w. cc, a.low d e s f.0 tt, h);
       })
 
-  pub item_says : (i : ℕ) (ts : Pieces) (xs : Trees ActionSpan) → IsNode act.BeginItem i (Says v text ts [] no_entity) xs → SaysOne (node item ts) xs
+  pub item_says : (i : ℕ) (ts : Pieces) (xs : Trees ActionSpan) → IsNode act.BeginItem i (Says v text ts [] [] no_entity) xs → SaysOne (node item ts) xs
   item_says i ts xs q =
-      let a = say_all v text ts [] no_entity q.1 q.3 in
+      let a = say_all v text ts [] [] no_entity q.1 q.3 in
       subst (SaysOne (node item ts)) (sym q.2) (record {
         fine = λ rest h. (tt, refl, tt, a.fine, h);
         pieces = λ rest. ap (λ z. a_tree (node item z) (pieces_in v text rest)) a.pieces;
         operands = λ rest. refl;
+        successors = λ rest. refl;
         regions = λ rest. refl;
         low = λ d e s f g rest h. (λ w. cc, a.low d e s f.0 tt, h);
       })
@@ -126,6 +133,7 @@ module _ (v : Values) (text : ℕ → List ℕ) where
     fine = λ rest h. ((refl, refl, refl), refl, tt, tt, h);
     pieces = λ rest. ap (λ z. a_tree (node (name z) no_tree) (pieces_in v text rest)) h;
     operands = λ rest. refl;
+    successors = λ rest. refl;
     regions = λ rest. refl;
     low = λ d e s f g rest h. (λ w. cc, tt, h);
   }))
@@ -136,6 +144,7 @@ module _ (v : Values) (text : ℕ → List ℕ) where
     fine = λ rest h. ((refl, refl, refl), refl, tt, tt, h);
     pieces = λ rest. ap (λ z. a_tree (node z no_tree) (pieces_in v text rest)) (ap number_in h ∙ r);
     operands = λ rest. refl;
+    successors = λ rest. refl;
     regions = λ rest. refl;
     low = λ d e s f g rest h. (λ w. cc, tt, h);
   }))
@@ -145,6 +154,7 @@ module _ (v : Values) (text : ℕ → List ℕ) where
     fine = λ rest h. ((refl, refl, refl), refl, tt, tt, h);
     pieces = λ rest. ap (λ z. a_tree (node (width_in z) no_tree) (pieces_in v text rest)) h;
     operands = λ rest. refl;
+    successors = λ rest. refl;
     regions = λ rest. refl;
     low = λ d e s f g rest h. (λ w. cc, tt, h);
   })))
@@ -163,17 +173,17 @@ module _ (f : Formats) (v : Values) (text : ℕ → List ℕ) where
   name_read _ cs ts t e k rest h = absurd t
 
   -- what a kind's texts are read as
-  pub kind_at_read : (o : Option Kind) (c : Kind) → o ≡ Some c → (begins ends : Action) → end_of begins ≡ Some ends → (ts : Pieces) (us : List (List ℕ)) (rs : Entities (List ℕ)) (ps : List (Option Marker)) → AreRead v text (parts_in c.format) ts us rs ps
-      → (P : Trees ActionSpan → Type 0) → ((i : ℕ) (xs : Trees ActionSpan) → IsNode begins i (Says v text ts us rs) xs → P xs) → Reads text P (kind_on o begins ends ps)
-  kind_at_read o c at begins ends e ts us rs ps r P f k rest =
+  pub kind_at_read : (o : Option Kind) (c : Kind) → o ≡ Some c → (begins ends : Action) → end_of begins ≡ Some ends → (ts : Pieces) (us ls : List (List ℕ)) (rs : Entities (List ℕ)) (ps : List (Option Marker)) → AreRead v text (parts_in c.format) ts us ls rs ps
+      → (P : Trees ActionSpan → Type 0) → ((i : ℕ) (xs : Trees ActionSpan) → IsNode begins i (Says v text ts us ls rs) xs → P xs) → Reads text P (kind_on o begins ends ps)
+  kind_at_read o c at begins ends e ts us ls rs ps r P f k rest =
       subst (λ o. HaveTexts text k (kind_on o begins ends ps rest) → Gives text P k (kind_on o begins ends ps rest) rest) (sym at)
-      (λ h. so text k (kind_on (Some c) begins ends ps rest) rest (f (k + 1 - 1)) (kind_read v text c begins ends e ts us rs ps r k rest h))
+      (λ h. so text k (kind_on (Some c) begins ends ps rest) rest (f (k + 1 - 1)) (kind_read v text c begins ends e ts us ls rs ps r k rest h))
 
   -- ---- types and attributes
 
   -- a list, given its members
   list_read : (s : step.Step) (ts : Pieces) → IsListOf s (λ ss. FitMembers f v ss ts)
-      → ((member : Steps) (printed cs : List ℕ) → FitMembers f v (parts_in member) ts → Reads text (Says v text ts [] no_entity) (members_on (step.list_of member printed cs) (parts_on f ts)))
+      → ((member : Steps) (printed cs : List ℕ) → FitMembers f v (parts_in member) ts → Reads text (Says v text ts [] [] no_entity) (members_on (step.list_of member printed cs) (parts_on f ts)))
       → Reads text (SaysOne v text (node list ts)) (λ rest. did act.BeginList ∷ members_on s (parts_on f ts) (did act.EndList ∷ rest))
   list_read (step.list_of member printed cs) ts fit inner k rest h =
       let s = step.list_of member printed cs in
@@ -181,23 +191,24 @@ module _ (f : Formats) (v : Values) (text : ℕ → List ℕ) where
       (between text act.BeginList act.EndList refl k (members_on s (parts_on f ts) (did act.EndList ∷ rest)) rest (inner member printed cs fit k (did act.EndList ∷ rest) h))
   list_read _ ts fit inner k rest h = absurd fit
 
-  item_read : (s : step.Step) (ts : Pieces) → AreRead v text (parts_in (member_of s)) ts [] no_entity (parts_on f ts) → Reads text (SaysOne v text (node item ts)) (piece_on f (node item ts) s)
+  item_read : (s : step.Step) (ts : Pieces) → AreRead v text (parts_in (member_of s)) ts [] [] no_entity (parts_on f ts) → Reads text (SaysOne v text (node item ts)) (piece_on f (node item ts) s)
   item_read s ts r k rest h =
       so text k (piece_on f (node item ts) s rest) rest (item_says v text (k - 1) ts)
       (between text act.BeginItem act.EndItem refl k (format_on a_word (member_of s) (parts_on f ts) (did act.EndItem ∷ rest)) rest
-      (format_read v text (member_of s) a_word ts [] no_entity (parts_on f ts) r k (did act.EndItem ∷ rest) h))
+      (format_read v text (member_of s) a_word ts [] [] no_entity (parts_on f ts) r k (did act.EndItem ∷ rest) h))
 
   mutual
     pub piece_read : (t : ValueTree) (s : step.Step) → Fits f v s t → IsPlain t → Reads text (SaysOne v text t) (piece_on f t s)
     piece_read (node (type_of_kind n) ts) s fit plain =
-        kind_at_read (slice_get f.types n) fit.1 fit.2 (act.BeginType n) act.EndType refl ts [] no_entity (parts_on f ts) (parts_read ts (parts_in fit.1.format) fit.3 plain)
+        kind_at_read (slice_get f.types n) fit.1 fit.2 (act.BeginType n) act.EndType refl ts [] [] no_entity (parts_on f ts) (parts_read ts (parts_in fit.1.format) fit.3 plain)
         (SaysOne v text (node (type_of_kind n) ts)) (λ i xs q. type_says v text n i ts xs fit.4 q)
     piece_read (node (attribute_of_kind n) ts) s fit plain =
-        kind_at_read (slice_get f.attributes n) fit.1 fit.2 (act.BeginAttribute n) act.EndAttribute refl ts [] no_entity (parts_on f ts) (parts_read ts (parts_in fit.1.format) fit.3 plain)
+        kind_at_read (slice_get f.attributes n) fit.1 fit.2 (act.BeginAttribute n) act.EndAttribute refl ts [] [] no_entity (parts_on f ts) (parts_read ts (parts_in fit.1.format) fit.3 plain)
         (SaysOne v text (node (attribute_of_kind n) ts)) (λ i xs q. attribute_says v text n i ts xs fit.4 fit.5 q)
     piece_read (node list ts) s fit plain = list_read s ts fit (λ member printed cs fits. members_read ts member printed cs fits plain)
     piece_read (node item ts) s fit plain = absurd fit
     piece_read (node (operands n) ts) s fit plain = absurd plain
+    piece_read (node (successor n) ts) s fit plain = absurd plain
     piece_read (node region ts) s fit plain = absurd plain
     piece_read (node (name cs) ts) s fit plain = name_read s cs ts fit.0 plain
     piece_read (node (number negative magnitude) ts) s fit plain = λ k rest h.
@@ -211,28 +222,28 @@ module _ (f : Formats) (v : Values) (text : ℕ → List ℕ) where
         (λ xs q. width_says v text (k + 1 - 1) (width_text sign bits) (node (width sign bits) ts) ts xs (here v text k (width_text sign bits) h.0) (ap (λ z. node z ts) (width_again sign bits fit.1)) plain q)
         (single text act.Width refl (k + 1) rest h.1))
 
-    pub parts_read : (ts : Pieces) (ss : List step.Step) → FitAll f v ss ts → ArePlain ts → AreRead v text ss ts [] no_entity (parts_on f ts)
-    parts_read no_tree [] fit plain = (refl, refl)
+    pub parts_read : (ts : Pieces) (ss : List step.Step) → FitAll f v ss ts → ArePlain ts → AreRead v text ss ts [] [] no_entity (parts_on f ts)
+    parts_read no_tree [] fit plain = (refl, refl, refl)
     parts_read no_tree (s ∷ ss) fit plain = absurd fit
     parts_read (a_tree t ts) [] fit plain = absurd fit
-    parts_read (a_tree t ts) (s ∷ ss) fit plain = ([], [], no_entity, no_entity, refl, refl, piece_read t s fit.0 plain.0, parts_read ts ss fit.1 plain.1)
+    parts_read (a_tree t ts) (s ∷ ss) fit plain = ([], [], [], [], no_entity, no_entity, refl, refl, refl, piece_read t s fit.0 plain.0, parts_read ts ss fit.1 plain.1)
 
     members_read : (ts : Pieces) (member : Steps) (printed cs : List ℕ) → FitMembers f v (parts_in member) ts → ArePlain ts
-        → Reads text (Says v text ts [] no_entity) (members_on (step.list_of member printed cs) (parts_on f ts))
-    members_read no_tree member printed cs fit plain = λ k rest h. nothing text (Says v text no_tree [] no_entity) k rest (says_none v text) h
+        → Reads text (Says v text ts [] [] no_entity) (members_on (step.list_of member printed cs) (parts_on f ts))
+    members_read no_tree member printed cs fit plain = λ k rest h. nothing text (Says v text no_tree [] [] no_entity) k rest (says_none v text) h
     members_read (a_tree t ts) member printed cs fit plain = λ k rest h.
         let s = step.list_of member printed cs in
-        then text k (piece_on f t s (more_members_on s (parts_on f ts) rest)) (more_members_on s (parts_on f ts) rest) rest (says_more v text t ts [] [] no_entity no_entity)
+        then text k (piece_on f t s (more_members_on s (parts_on f ts) rest)) (more_members_on s (parts_on f ts) rest) rest (says_more v text t ts [] [] [] [] no_entity no_entity)
         (member_read t member printed cs fit.0 plain.0 k (more_members_on s (parts_on f ts) rest) h)
         (λ n g. more_members_read ts member printed cs fit.1 plain.1 n rest g)
 
     more_members_read : (ts : Pieces) (member : Steps) (printed cs : List ℕ) → FitMembers f v (parts_in member) ts → ArePlain ts
-        → Reads text (Says v text ts [] no_entity) (more_members_on (step.list_of member printed cs) (parts_on f ts))
-    more_members_read no_tree member printed cs fit plain = λ k rest h. nothing text (Says v text no_tree [] no_entity) k rest (says_none v text) h
+        → Reads text (Says v text ts [] [] no_entity) (more_members_on (step.list_of member printed cs) (parts_on f ts))
+    more_members_read no_tree member printed cs fit plain = λ k rest h. nothing text (Says v text no_tree [] [] no_entity) k rest (says_none v text) h
     more_members_read (a_tree t ts) member printed cs fit plain = λ k rest h.
         let s = step.list_of member printed cs in
         worded text k (piece_on f t s (more_members_on s (parts_on f ts) rest)) rest printed cs
-        (then text (k + 1) (piece_on f t s (more_members_on s (parts_on f ts) rest)) (more_members_on s (parts_on f ts) rest) rest (says_more v text t ts [] [] no_entity no_entity)
+        (then text (k + 1) (piece_on f t s (more_members_on s (parts_on f ts) rest)) (more_members_on s (parts_on f ts) rest) rest (says_more v text t ts [] [] [] [] no_entity no_entity)
         (member_read t member printed cs fit.0 plain.0 (k + 1) (more_members_on s (parts_on f ts) rest) h.1)
         (λ n g. more_members_read ts member printed cs fit.1 plain.1 n rest g))
 

@@ -5,7 +5,7 @@ use Rattle.ir_print.specs.Formats as step
 use Rattle.ir_print.specs.Formats.{Formats, Kind, Step, Steps, no_steps}
 use Rattle.ir_print.specs.Layout as layout
 use Rattle.ir_print.specs.Layout.{Chunk, Before, an_id, a_word, a_part, gap_of_word, gap_of_part, space, line, word_of, member_of, width_text, number_text}
-use Rattle.ir_print.specs.Pieces.{type_of_kind, attribute_of_kind, list, item, operands, region, name, number, width, ValueTree, Pieces, EntityHead, operation, a_region, block, Entity, entity, Entities, no_entity, an_entity}
+use Rattle.ir_print.specs.Pieces.{type_of_kind, attribute_of_kind, list, item, operands, successor, region, name, number, width, ValueTree, Pieces, EntityHead, operation, a_region, block, Entity, entity, Entities, no_entity, an_entity}
 use Rattle.ir_grammar.specs.declared.grammar.Action.{Action}
 use Rattle.ir_grammar.specs.declared.grammar.Action.TheVariants as act
 use Rattle.ir_grammar.specs.declared.grammar.Event.{Event}
@@ -114,6 +114,7 @@ abbrev mutual
   piece_on f (node list ts) s rest = did act.BeginList ∷ members_on s (parts_on f ts) (did act.EndList ∷ rest)
   piece_on f (node item ts) s rest = did act.BeginItem ∷ format_on a_word (member_of s) (parts_on f ts) (did act.EndItem ∷ rest)
   piece_on f (node (operands n) ts) s rest = rest
+  piece_on f (node (successor n) ts) s rest = rest
   piece_on f (node region ts) s rest = rest
   piece_on f (node (name cs) ts) s rest = name_on s cs rest
   piece_on f (node (number negative magnitude) ts) s rest = token (number_text negative magnitude) ∷ did act.Number ∷ rest
@@ -149,15 +150,22 @@ abbrev pub first_region_on : List (List Mark → List Mark) → Marker
 first_region_on [] s rest = rest
 first_region_on (r ∷ rs) s rest = r rest
 
-abbrev pub all_parts_on : Formats → Pieces → List (List ℕ) → List (List Mark → List Mark) → List (Option Marker)
-all_parts_on f no_tree us rs = []
-all_parts_on f (a_tree (node (operands n) _) ts) us rs = operands_on (take n us) ∷ all_parts_on f ts (drop n us) rs
-all_parts_on f (a_tree (node region _) ts) us rs = Some (first_region_on rs) ∷ all_parts_on f ts us (drop 1 rs)
-all_parts_on f (a_tree t ts) us rs = Some (piece_on f t) ∷ all_parts_on f ts us rs
+-- an edge: its label, and the names of the values that it hands on
+abbrev pub edge_on : (labels used : List (List ℕ)) → Marker
+edge_on [] us s rest = rest
+edge_on (l ∷ ls) us s rest =
+    token (codes "^") ∷ token l ∷ did act.BeginSuccessor ∷ token (codes "(") ∷ names_on act.Operand us (token (codes ")") ∷ did act.EndSuccessor ∷ rest)
+
+abbrev pub all_parts_on : Formats → Pieces → (used labels : List (List ℕ)) → List (List Mark → List Mark) → List (Option Marker)
+all_parts_on f no_tree us ls rs = []
+all_parts_on f (a_tree (node (operands n) _) ts) us ls rs = operands_on (take n us) ∷ all_parts_on f ts (drop n us) ls rs
+all_parts_on f (a_tree (node (successor n) _) ts) us ls rs = Some (edge_on ls (take n us)) ∷ all_parts_on f ts (drop n us) (drop 1 ls) rs
+all_parts_on f (a_tree (node region _) ts) us ls rs = Some (first_region_on rs) ∷ all_parts_on f ts us ls (drop 1 rs)
+all_parts_on f (a_tree t ts) us ls rs = Some (piece_on f t) ∷ all_parts_on f ts us ls rs
 
 abbrev pub operation_head_on : Formats → EntityHead (List ℕ) → List (List Mark → List Mark) → List Mark → List Mark
-operation_head_on f (operation kind results used pieces) rs rest =
-    results_on results (kind_on (slice_get f.operations kind) (act.Operation kind) act.EndOperation (all_parts_on f pieces used rs) rest)
+operation_head_on f (operation kind results used successors pieces) rs rest =
+    results_on results (kind_on (slice_get f.operations kind) (act.Operation kind) act.EndOperation (all_parts_on f pieces used successors rs) rest)
 operation_head_on f _ rs rest = rest
 
 abbrev pub argument_on : Formats → List ℕ × ValueTree → List Mark → List Mark
@@ -173,7 +181,7 @@ arguments_on f (x ∷ xs) rest = argument_on f x (more_arguments_on f xs rest)
 
 -- the head of a block, what is in it, and its end
 abbrev pub block_head_on : Formats → EntityHead (List ℕ) → (List Mark → List Mark) → List Mark → List Mark
-block_head_on f (block label arguments) inner rest = token (codes "^") ∷ token label ∷ did act.Label ∷ token (codes "(")
+block_head_on f (block named label arguments) inner rest = token (codes "^") ∷ token label ∷ did act.Label ∷ token (codes "(")
     ∷ arguments_on f arguments (token (codes ")") ∷ token (codes ":") ∷ did act.Header ∷ inner (did act.EndBlock ∷ rest))
 block_head_on f _ inner rest = inner rest
 
@@ -214,14 +222,14 @@ abbrev pub AreIdentifiers : List (List ℕ) → Type 0
 AreIdentifiers [] = Unit {0}
 AreIdentifiers (x ∷ xs) = (is_identifier x ≡ true) × AreIdentifiers xs
 
--- the names in a head are identifiers
+-- the names in a head are identifiers, and a block has its name as its label
 abbrev pub IsSpeltHead : EntityHead (List ℕ) → Type 0
-IsSpeltHead (operation kind results used pieces) = AreIdentifiers (names_of results) × AreIdentifiers used
+IsSpeltHead (operation kind results used successors pieces) = AreIdentifiers (names_of results) × AreIdentifiers used × AreIdentifiers successors
 IsSpeltHead a_region = Unit {0}
-IsSpeltHead (block label arguments) = (is_identifier label ≡ true) × AreIdentifiers (names_of arguments)
+IsSpeltHead (block named label arguments) = (label ≡ named) × (is_identifier label ≡ true) × AreIdentifiers (names_of arguments)
 
 abbrev mutual
-  -- the names in an entity are identifiers
+  -- the same of all heads in an entity
   pub IsSpelt : Entity (List ℕ) → Type 0
   IsSpelt (entity h ts) = IsSpeltHead h × AreSpelt ts
 

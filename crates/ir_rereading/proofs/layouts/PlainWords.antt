@@ -79,6 +79,7 @@ mutual
   step_words : (s : Step) (w : List ℕ) → is_step_apart s ≡ true → ((printed text : List ℕ) → s ≡ step.word printed text → is_word text ≡ true) → IsAmong w (words_in_step s) → is_word w ≡ true
   step_words (step.word printed text) w h own i = single text w (own printed text refl) i
   step_words step.operands w h own i = single (codes ",") w refl i
+  step_words step.successor w h own i = single (codes ",") w refl i
   step_words step.symbol_name w h own i = single (codes "@") w refl i
   step_words (step.list_of member printed text) w h own (inl e) =
       let t = list_tests (is_printed printed text) (begins_apart printed) (ends_apart printed) (are_steps_apart part member) h in

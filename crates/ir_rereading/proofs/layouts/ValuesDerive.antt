@@ -6,7 +6,7 @@ use Rattle.ir_names.specs.Tree.{node, no_tree, a_tree}
 use Rattle.ir_print.specs.Formats as step
 use Rattle.ir_print.specs.Formats.{Formats, Kind, Step, Steps, no_steps}
 use Rattle.ir_print.specs.Layout.{a_word}
-use Rattle.ir_print.specs.Pieces.{type_of_kind, attribute_of_kind, list, item, operands, region, name, number, width, ValueTree, Pieces, Values}
+use Rattle.ir_print.specs.Pieces.{type_of_kind, attribute_of_kind, list, item, operands, successor, region, name, number, width, ValueTree, Pieces, Values}
 use Rattle.ir_print.specs.Shapes.{parts_in, TakesName, TakesOperands, Fits, FitAll, FitMembers, FitsMember}
 use Rattle.ir_grammar.specs.declared.grammar.Action.TheVariants as act
 use Rattle.ir_grammar.specs.declared.grammar.Symbol.{Symbol}
@@ -22,7 +22,7 @@ use Rattle.ir_rereading.proofs.layouts.PlainKinds.{name_accepted, width_accepted
 use Rattle.ir_rereading.proofs.layouts.MarkSteps.{DerivesMarks, shift, acted, regroup, expand, Placed, AllPlaced, IsReadAt, AreReadAt, took, took_word, format_reads, kind_reads}
 use Rattle.ir_formats.proofs.Booleans.{both_hold}
 
--- ---- steps that say neither operands nor regions
+-- ---- steps that say no operands, no edges and no regions
 
 -- each step passes the test
 abbrev pub AllPass : (Step → Bool) → List Step → Type 0
@@ -49,9 +49,10 @@ values_alone step.operands n h e = let wrong : false ≡ true = e in cc
 values_alone step.operand n h e = let wrong : false ≡ true = e in cc
 values_alone _ n h e = h
 
--- the piece is neither operands nor a region
+-- the piece is no operands, no edge and no region
 abbrev pub IsInner : ValueTree → Type 0
 IsInner (node (operands n) ts) = ⊥
+IsInner (node (successor n) ts) = ⊥
 IsInner (node region ts) = ⊥
 IsInner _ = Unit {0}
 
@@ -142,6 +143,7 @@ module _ (g : Grammar) (f : Formats) (known : IsGrammarOf f g) (t : Tested f) wh
       piece_read (node list ts) s h plain inner = absurd h
       piece_read (node item ts) s h plain inner = absurd h
       piece_read (node (operands n) ts) s h plain inner = absurd inner
+      piece_read (node (successor n) ts) s h plain inner = absurd inner
       piece_read (node region ts) s h plain inner = absurd inner
       piece_read (node (name cs) ts) s h plain inner = name_read s cs h.0 h.1
       piece_read (node (number negative magnitude) ts) s h plain inner =
@@ -155,6 +157,7 @@ module _ (g : Grammar) (f : Formats) (known : IsGrammarOf f g) (t : Tested f) wh
       parts_read no_tree (s ∷ fs) h values = absurd h
       parts_read (a_tree p ps) [] h values = absurd h
       parts_read (a_tree (node (operands n) ts) ps) (s ∷ fs) h values = absurd (values_alone s n h.0 values.0)
+      parts_read (a_tree (node (successor n) ts) ps) (s ∷ fs) h values = let wrong : false ≡ true = sym (ap is_value_step h.0) ∙ values.0 in cc
       parts_read (a_tree (node region ts) ps) (s ∷ fs) h values = let wrong : false ≡ true = sym (ap is_value_step h.0) ∙ values.0 in cc
       parts_read (a_tree p ps) (s ∷ fs) h values = (piece_read p s h.0 (value_plain s values.0) tt, parts_read ps fs h.1 values.1)
 

@@ -9,7 +9,7 @@ use Rattle.ir_grammar.specs.declared.grammar.Event.TheVariants.{Took, Did}
 use Rattle.ir_scopes.specs.declared.sites.Closing.{Closing}
 use Rattle.ir_scopes.specs.declared.sites.Frame.{Frame}
 use Rattle.ir_scopes.specs.declared.sites.Site.{Site}
-use Rattle.ir_grammar.specs.Nesting.{Position, at_root, behind_root_results, at_end, in_operation, in_operands, in_region, in_header, in_argument, in_block, behind_results, in_type, in_attribute, in_list, in_item, Move, goes_to, goes_in, goes_out, nowhere, move, NestsBy}
+use Rattle.ir_grammar.specs.Nesting.{Position, at_root, behind_root_results, at_end, in_operation, in_operands, in_successor, in_region, in_header, in_argument, in_block, behind_results, in_type, in_attribute, in_list, in_item, Move, goes_to, goes_in, goes_out, nowhere, move, NestsBy}
 use Rattle.ir_forest.specs.Progress.{Leads}
 use Rattle.ir_scopes.specs.Scopes.{EventPlace, beginning, behind, rest, here_behind_operation, here_behind_region, mentioned, label_mentioned, ended, each, mentions, closings, label_mentions, label_closings}
 use Rattle.ir_scopes.proofs.Apart.{get_append}
@@ -105,6 +105,7 @@ neutral _ behind_root_results h = refl
 neutral _ at_end h = refl
 neutral _ in_operation h = refl
 neutral _ in_operands h = refl
+neutral _ in_successor h = refl
 neutral _ in_region h = refl
 neutral _ in_header h = refl
 neutral _ in_argument h = refl

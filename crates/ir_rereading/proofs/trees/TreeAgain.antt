@@ -7,12 +7,13 @@ use Rattle.ir_scopes.specs.declared.scopes.Resolution.{Resolution}
 use Rattle.ir_scopes.specs.declared.sites.Closing.{Closing}
 use Rattle.ir_scopes.specs.declared.sites.Site.{Site}
 use Rattle.ir_forest.specs.Meaning.{renamed}
-use Rattle.ir_scopes.specs.Scopes.{name_of, Means, Resolves}
+use Rattle.ir_scopes.specs.Scopes.{name_of, Means, SitesAreApart, Resolves}
 use Rattle.ir_scopes.proofs.Walks.{these}
-use Rattle.ir_forest.specs.Closed.{AllDistinct, names_of, head_defines, is_isolated_head, in_scope, defined_by, all_defined, mentioned_by, all_mentioned, definitions_of, all_definitions_of, IsScope, IsScoped, AreScoped, IsScopedRoot, unlabelled, IsOperation, AreRegions, AreBlocks, IsBlock, AreOperations, IsNumbered}
+use Rattle.ir_forest.specs.Closed.{AllDistinct, names_of, head_defines, is_isolated_head, in_scope, defined_by, all_defined, mentioned_by, all_mentioned, definitions_of, all_definitions_of, IsScope, IsScoped, AreScoped, IsScopedRoot, unlabelled, IsOperation, AreRegions, AreBlocks, IsBlock, AreOperations, blocks_of, IsNumbered}
 use Rattle.ir_rereading.proofs.trees.TreeSites.{In, in_left, in_right, in_either, in_none}
-use Rattle.ir_rereading.proofs.trees.TreeRenamed.{operands_of, all_operands_of}
-use Rattle.ir_rereading.proofs.trees.TreeAlike.{Alike, pairs_first, pairs_second, pairs_along, alike_from, alike_left, alike_to, alike_definitions, alike_operands, alike_rebuild}
+use Rattle.ir_rereading.proofs.trees.TreeRenamed.{operands_of, all_operands_of, successors_of}
+use Rattle.ir_rereading.proofs.trees.TreeAlike.{Alike, pairs_first, pairs_second, pairs_along, alike_from, alike_left, alike_to, alike_definitions, alike_operands, alike_blocks, alike_successors, alike_rebuild}
+use Rattle.ir_rereading.proofs.trees.TreeEdges.{LinkedToken}
 
 -- ---- what is mentioned is defined
 
@@ -81,12 +82,12 @@ module _ {N : Type 0} (isolated : ℕ → Bool) (x : N) where
   module _ (v : Values) where
     mutual
       operation_found : (t : Entity N) (inner : Bool) → IsOperation v t → IsScoped isolated inner t → In x (operands_of t) → Found t
-      operation_found (entity (operation kind results used pieces) ts) inner h s i = elim (in_either x used (all_operands_of ts) i) [
-        | inl e ↦ inl (in_left x used (in_scope isolated (operation kind results used pieces) (all_mentioned isolated ts)) e)
-        | inr e ↦ operation_scope kind (names_of results) used ts (regions_found ts (isolated kind) h.2 s.1 e)
+      operation_found (entity (operation kind results used successors pieces) ts) inner h s i = elim (in_either x used (all_operands_of ts) i) [
+        | inl e ↦ inl (in_left x used (in_scope isolated (operation kind results used successors pieces) (all_mentioned isolated ts)) e)
+        | inr e ↦ operation_scope kind (names_of results) used ts (regions_found ts (isolated kind) h.3 s.1 e)
       ]
       operation_found (entity a_region ts) inner h s i = absurd h
-      operation_found (entity (block label arguments) ts) inner h s i = absurd h
+      operation_found (entity (block named label arguments) ts) inner h s i = absurd h
 
       regions_found : (ts : Entities N) (inner : Bool) → AreRegions v ts → AreScoped isolated inner ts → In x (all_operands_of ts) → RegionsFound inner ts
       regions_found no_entity inner h s i = in_none x i
@@ -94,8 +95,8 @@ module _ {N : Type 0} (isolated : ℕ → Bool) (x : N) where
         | inl e ↦ region_first inner us ts (region_scope inner us s.0.0 (blocks_found us h.0 s.0.1 e))
         | inr e ↦ region_more inner us ts (regions_found ts inner h.1 s.1 e)
       ]
-      regions_found (an_entity (entity (operation kind results used pieces) us) ts) inner h s i = absurd h.0
-      regions_found (an_entity (entity (block label arguments) us) ts) inner h s i = absurd h.0
+      regions_found (an_entity (entity (operation kind results used successors pieces) us) ts) inner h s i = absurd h.0
+      regions_found (an_entity (entity (block named label arguments) us) ts) inner h s i = absurd h.0
 
       blocks_found : (ts : Entities N) → AreBlocks v ts → AreScoped isolated false ts → In x (all_operands_of ts) → AllFound ts
       blocks_found no_entity h s i = in_none x i
@@ -105,12 +106,12 @@ module _ {N : Type 0} (isolated : ℕ → Bool) (x : N) where
       ]
 
       block_found : (t : Entity N) → IsBlock v t → IsScoped isolated false t → In x (operands_of t) → Found t
-      block_found (entity (block label arguments) ts) h s i = elim (operations_found ts h s.1 i) [
+      block_found (entity (block named label arguments) ts) h s i = elim (operations_found ts h s.1 i) [
         | inl e ↦ inl e
         | inr e ↦ inr (in_right x (names_of arguments) (all_definitions_of ts) e)
       ]
       block_found (entity a_region ts) h s i = absurd h
-      block_found (entity (operation kind results used pieces) ts) h s i = absurd h
+      block_found (entity (operation kind results used successors pieces) ts) h s i = absurd h
 
       operations_found : (ts : Entities N) → AreOperations v ts → AreScoped isolated false ts → In x (all_operands_of ts) → AllFound ts
       operations_found no_entity h s i = in_none x i
@@ -133,9 +134,9 @@ range_at a zero i n h = let wrong : None ≡ Some n = h in cc
 range_at a (suc m) zero n h = let same : a ≡ n = cc in omega arith
 range_at a (suc m) (suc i) n h = omega (arith, range_at (a + 1) m i n h)
 
--- each number is where it is defined
-pub numbered_at : (t : Entity ℕ) → IsNumbered t → (i n : ℕ) → slice_get (definitions_of t) i ≡ Some n → n ≡ i
-numbered_at t h i n at = omega (arith, range_at 0 (length (definitions_of t)) i n (ap (λ (xs : List ℕ). slice_get xs i) (sym h) ∙ at))
+-- each number of a definition is where it is defined, and that of a block where it stands
+counted_at : (xs : List ℕ) → xs ≡ range_with_len 0 (length xs) → (i n : ℕ) → slice_get xs i ≡ Some n → n ≡ i
+counted_at xs h i n at = omega (arith, range_at 0 (length xs) i n (ap (λ (ys : List ℕ). slice_get ys i) (sym h) ∙ at))
 
 site_at : (ss : List Site) (i k : ℕ) → slice_get (map (λ s. s.token) ss) i ≡ Some k → (s : Site) × (slice_get ss i ≡ Some s) × (s.token ≡ k)
 site_at [] i k h = let wrong : None ≡ Some k = h in cc
@@ -147,9 +148,50 @@ token_at [] i s h = let wrong : None ≡ Some s = h in cc
 token_at (x ∷ ss) zero s h = let same : x ≡ s = cc in ap (λ (y : Site). Some y.token) same
 token_at (x ∷ ss) (suc i) s h = token_at ss i s h
 
+-- ---- names of blocks
+
+module _ (ls : List Site) (text μ : ℕ → List ℕ) where
+  -- the token is spelled as the name of a block, and it is no label but that of this block
+  abbrev pub AtBlock : ℕ → ℕ → Type 0
+  AtBlock k n = (text k ≡ μ n) × ((j : ℕ) (s : Site) → slice_get ls j ≡ Some s → s.token ≡ k → j ≡ n)
+
+module _ (ls ms : List Site) (text ν μ : ℕ → List ℕ) (tree t : Entity ℕ) where
+  abbrev NamesValue : ℕ → ℕ → Type 0
+  NamesValue k n = text k ≡ ν n
+
+  abbrev NamesBlock : ℕ → ℕ → Type 0
+  NamesBlock k n = text k ≡ μ n
+
+  abbrev IsAt : ℕ → ℕ → Type 0
+  IsAt = AtBlock ls text μ
+
+  -- In a text whose tokens are the names of a tree, each label is at its own block.
+  pub blocks_apart : unlabelled (renamed text text tree) ≡ unlabelled (renamed ν μ t) → IsNumbered t → blocks_of tree ≡ map (λ s. s.token) ls
+      → ((k : ℕ) → In k (successors_of tree) → (m : Site) × In m ms × (m.token ≡ k)) → SitesAreApart ls ms → Alike NamesValue IsAt tree t
+  blocks_apart same numbered tokens edges apart = alike_rebuild NamesValue NamesBlock NamesValue IsAt tree t spelled (record {
+    defines = alike_definitions NamesValue NamesBlock tree t spelled;
+    mentions = alike_operands NamesValue NamesBlock tree t spelled;
+    blocks = pairs_along NamesBlock IsAt (blocks_of tree) (blocks_of t) (alike_blocks NamesValue NamesBlock tree t spelled) named;
+    goes_on = pairs_along NamesBlock IsAt (successors_of tree) (successors_of t) (alike_successors NamesValue NamesBlock tree t spelled) goes;
+  })
+    where
+      spelled : Alike NamesValue NamesBlock tree t
+      spelled = alike_left (λ x n. x ≡ ν n) (λ x n. x ≡ μ n) text text tree t (alike_from ν μ (renamed text text tree) t same)
+
+      named : (i k n : ℕ) → slice_get (blocks_of tree) i ≡ Some k → slice_get (blocks_of t) i ≡ Some n → NamesBlock k n → IsAt k n
+      named i k n at there e = (
+        e,
+        λ j s to is.
+            (let own = site_at ls i k (ap (λ (xs : List ℕ). slice_get xs i) (sym tokens) ∙ at) in
+            apart.definitions j i s own.0 to own.1 (is ∙ sym own.2) ∙ sym (counted_at (blocks_of t) numbered.blocks i n there)),
+      )
+
+      goes : (i k n : ℕ) → slice_get (successors_of tree) i ≡ Some k → slice_get (successors_of t) i ≡ Some n → NamesBlock k n → IsAt k n
+      goes i k n at there e = (e, λ j s to is. (let m = edges k (i, at) in absurd (apart.both j m.1.0 s m.0 to m.1.1 (is ∙ sym m.2))))
+
 -- ---- the tree again
 
-module _ (isolated : ℕ → Bool) (v : Values) (names : List ℕ) (ds ms : List Site) (cs : List Closing) (r : Resolution) (text ν : ℕ → List ℕ) (tree t : Entity ℕ) where
+module _ (isolated : ℕ → Bool) (v : Values) (names : List ℕ) (ds ms : List Site) (cs : List Closing) (r : Resolution) (text ν μ : ℕ → List ℕ) (tree t : Entity ℕ) where
   -- the number that the name at a token is looked up as
   abbrev number : ℕ → ℕ
   number k = slice_index r.definitions k
@@ -158,32 +200,39 @@ module _ (isolated : ℕ → Bool) (v : Values) (names : List ℕ) (ds ms : List
   abbrev Spelled : ℕ → ℕ → Type 0
   Spelled k n = text k ≡ ν n
 
-  -- the token has the number of a value
+  -- the token is spelled as the name of a block
+  abbrev SpelledBlock : ℕ → ℕ → Type 0
+  SpelledBlock k n = text k ≡ μ n
+
+  -- the token has the number of a value or a block
   abbrev Numbered : ℕ → ℕ → Type 0
   Numbered k n = number k ≡ n
 
   -- A text whose tokens are the names of a tree, each definition at its own name, says the tree again: each name is looked up as the
   -- number that it stands for.
-  pub tree_again : unlabelled (renamed text tree) ≡ unlabelled (renamed ν t) → IsOperation v t → IsNumbered t → IsScopedRoot isolated t → AllDistinct (definitions_of (renamed text tree))
+  pub tree_again : unlabelled (renamed text text tree) ≡ unlabelled (renamed ν μ t) → IsOperation v t → IsNumbered t
+      → IsScopedRoot isolated t → AllDistinct (definitions_of (renamed text text tree))
       → definitions_of tree ≡ map (λ s. s.token) ds → ((k : ℕ) → In k (operands_of tree) → (m : Site) × In m ms × (m.token ≡ k))
       → Resolves names (these ds ms cs) r.definitions r.count → ((m : Site) → In m ms → (j : ℕ) × Means names ds m j)
       → ((s : Site) → In s ds → s.token < length names) → ((m : Site) → In m ms → m.token < length names)
       → ((s m : Site) → In s ds → In m ms → name_of names s.token ≡ name_of names m.token → text s.token ≡ text m.token)
-      → unlabelled (renamed (slice_index r.definitions) tree) ≡ unlabelled t
-  tree_again same whole numbered scoped distinct tokens operands resolves meant here within alike =
-      alike_to number tree t (alike_rebuild Spelled Numbered tree t spelled defines mentions)
+      → Pairs Numbered (blocks_of tree) (blocks_of t) → Pairs Numbered (successors_of tree) (successors_of t)
+      → unlabelled (renamed (slice_index r.definitions) (slice_index r.definitions) tree) ≡ unlabelled t
+  tree_again same whole numbered scoped distinct tokens operands resolves meant here within alike blocks edges =
+      alike_to number number tree t
+      (alike_rebuild Spelled SpelledBlock Numbered Numbered tree t spelled (record { defines = defines; mentions = mentions; blocks = blocks; goes_on = edges }))
     where
-      printed : Alike (λ x n. x ≡ ν n) (renamed text tree) t
-      printed = alike_from ν (renamed text tree) t same
+      printed : Alike (λ x n. x ≡ ν n) (λ x n. x ≡ μ n) (renamed text text tree) t
+      printed = alike_from ν μ (renamed text text tree) t same
 
-      spelled : Alike Spelled tree t
-      spelled = alike_left (λ x n. x ≡ ν n) text tree t printed
+      spelled : Alike Spelled SpelledBlock tree t
+      spelled = alike_left (λ x n. x ≡ ν n) (λ x n. x ≡ μ n) text text tree t printed
 
       definitions : Pairs Spelled (definitions_of tree) (definitions_of t)
-      definitions = alike_definitions Spelled tree t spelled
+      definitions = alike_definitions Spelled SpelledBlock tree t spelled
 
-      names_printed : Pairs (λ x n. x ≡ ν n) (definitions_of (renamed text tree)) (definitions_of t)
-      names_printed = alike_definitions (λ x n. x ≡ ν n) (renamed text tree) t printed
+      names_printed : Pairs (λ x n. x ≡ ν n) (definitions_of (renamed text text tree)) (definitions_of t)
+      names_printed = alike_definitions (λ x n. x ≡ ν n) (λ x n. x ≡ μ n) (renamed text text tree) t printed
 
       -- a definition has its number
       defines : Pairs Numbered (definitions_of tree) (definitions_of t)
@@ -193,20 +242,20 @@ module _ (isolated : ℕ → Bool) (v : Values) (names : List ℕ) (ds ms : List
           go i k n at there e =
               let s = site_at ds i k (ap (λ (xs : List ℕ). slice_get xs i) (sym tokens) ∙ at) in
               let found : number s.0.token ≡ i = resolves.defined i s.0 s.1 (here s.0 (i, s.1)) in
-              ap number (sym s.2) ∙ found ∙ sym (numbered_at t numbered i n there)
+              ap number (sym s.2) ∙ found ∙ sym (counted_at (definitions_of t) numbered.values i n there)
 
       -- the definition at a name is the only one
       one : (j i n : ℕ) (s : Site) → slice_get ds j ≡ Some s → slice_get (definitions_of t) i ≡ Some n → text s.token ≡ ν n → j ≡ i
       one j i n s at there e =
           let first = pairs_first Spelled (definitions_of tree) (definitions_of t) definitions j s.token (ap (λ (xs : List ℕ). slice_get xs j) tokens ∙ token_at ds j s at) in
-          let x = pairs_second (λ x n. x ≡ ν n) (definitions_of (renamed text tree)) (definitions_of t) names_printed j first.0 first.1 in
-          let y = pairs_second (λ x n. x ≡ ν n) (definitions_of (renamed text tree)) (definitions_of t) names_printed i n there in
+          let x = pairs_second (λ x n. x ≡ ν n) (definitions_of (renamed text text tree)) (definitions_of t) names_printed j first.0 first.1 in
+          let y = pairs_second (λ x n. x ≡ ν n) (definitions_of (renamed text text tree)) (definitions_of t) names_printed i n there in
           let equal : x.0 ≡ y.0 = x.2 ∙ (sym first.2 ∙ (e ∙ sym y.2)) in
           distinct j i y.0 (x.1 ∙ ap (λ (z : List ℕ). Some z) equal) y.1
 
       -- an operand has the number of its definition
       mentions : Pairs Numbered (operands_of tree) (operands_of t)
-      mentions = pairs_along Spelled Numbered (operands_of tree) (operands_of t) (alike_operands Spelled tree t spelled) go
+      mentions = pairs_along Spelled Numbered (operands_of tree) (operands_of t) (alike_operands Spelled SpelledBlock tree t spelled) go
         where
           go : (i k n : ℕ) → slice_get (operands_of tree) i ≡ Some k → slice_get (operands_of t) i ≡ Some n → Spelled k n → Numbered k n
           go i k n at there e =
@@ -217,4 +266,31 @@ module _ (isolated : ℕ → Bool) (v : Values) (names : List ℕ) (ds ms : List
               let spelling : text s.token ≡ ν n = alike s m.0 (means.0, means.1.1) m.1 means.1.2.1 ∙ (ap text m.2 ∙ e) in
               let j : means.0 ≡ defined.0 = one means.0 defined.0 n s means.1.1 defined.1 spelling in
               let found : number m.0.token ≡ means.0 = resolves.mentioned m.1.0 means.0 m.0 m.1.1 means.1 (within m.0 m.1) in
-              ap number (sym m.2) ∙ (found ∙ (j ∙ sym (numbered_at t numbered defined.0 n defined.1)))
+              ap number (sym m.2) ∙ (found ∙ (j ∙ sym (counted_at (definitions_of t) numbered.values defined.0 n defined.1)))
+
+-- ---- the numbers of blocks again
+
+module _ (names : List ℕ) (ls ms : List Site) (cs : List Closing) (r : Resolution) (text ν μ : ℕ → List ℕ) (tree t : Entity ℕ)
+    (resolves : Resolves names (these ls ms cs) r.definitions r.labels) (here : (s : Site) → In s ls → s.token < length names) (within : (m : Site) → In m ms → m.token < length names) where
+  abbrev Again : ℕ → ℕ → Type 0
+  Again k n = slice_index r.definitions k ≡ n
+
+  -- a block has its number
+  pub blocks_again : Alike (λ k n. text k ≡ ν n) (AtBlock ls text μ) tree t → blocks_of tree ≡ map (λ s. s.token) ls
+      → Pairs Again (blocks_of tree) (blocks_of t)
+  blocks_again a tokens = pairs_along (AtBlock ls text μ) Again (blocks_of tree) (blocks_of t) (alike_blocks (λ k n. text k ≡ ν n) (AtBlock ls text μ) tree t a)
+      (λ i k n at there e.
+      (let s = site_at ls i k (ap (λ (xs : List ℕ). slice_get xs i) (sym tokens) ∙ at) in
+      ap (slice_index r.definitions) (sym s.2) ∙ (resolves.defined i s.0 s.1 (here s.0 (i, s.1)) ∙ e.1 i s.0 s.1 s.2)))
+
+  -- and so has each block to which an edge leads
+  pub edges_again : ((s m : Site) → In s ls → In m ms → text s.token ≡ text m.token → name_of names s.token ≡ name_of names m.token)
+      → Pairs (LinkedToken text (λ k n. text k ≡ ν n) (AtBlock ls text μ) ls ms) (successors_of tree) (successors_of t) → Pairs Again (successors_of tree) (successors_of t)
+  edges_again alike p = pairs_along (LinkedToken text (λ k n. text k ≡ ν n) (AtBlock ls text μ) ls ms) Again (successors_of tree) (successors_of t) p
+      (λ i k n at there e.
+      (let m = e.0 in
+      let d = e.3.0 in
+      let label = e.3.1 in
+      let means = alike d m label e.1 (e.3.3.0 ∙ sym e.3.4.0) in
+      let found : slice_index r.definitions m.token ≡ label.0 = resolves.mentioned e.1.0 label.0 m e.1.1 (d, label.1, (e.3.2, means)) (within m e.1) in
+      ap (slice_index r.definitions) (sym e.2) ∙ (found ∙ e.3.3.1 label.0 d label.1 refl)))

@@ -3,13 +3,13 @@ use Rattle.std.proofs.Common.{◌≡◌, ℕ, true, false, List, [], ◌∷◌, 
 use Rattle.std.proofs.lemmas.List.{append_assoc, append-nil}
 use Rattle.ir_names.specs.Tree.{Trees, node, no_tree, a_tree}
 use Rattle.ir_grammar.specs.declared.grammar.Action.{Action}
-use Rattle.ir_grammar.specs.declared.grammar.Action.TheVariants.{Result, Operation, EndOperation, BeginRegion, EndRegion, Label, Argument, Header, BeginType, EndType, BeginAttribute, EndAttribute, Name, Number, Width, BeginOperands, Operand, BeginList, BeginItem, EndItem}
+use Rattle.ir_grammar.specs.declared.grammar.Action.TheVariants.{Result, Operation, EndOperation, BeginRegion, EndRegion, Label, Argument, Header, BeginType, EndType, BeginAttribute, EndAttribute, Name, Number, Width, BeginOperands, Operand, BeginSuccessor, BeginList, BeginItem, EndItem}
 use Rattle.ir_grammar.specs.declared.grammar.Event.{Event}
 use Rattle.ir_forest.specs.Forest.{end_of, is_end, Deed, deeds, ActionSpan, ending, deeds_in, IsWholeStep, AreWhole, IsForestOf}
-use Rattle.ir_grammar.specs.Nesting.{Position, at_root, behind_root_results, at_end, in_operation, in_operands, in_region, in_header, in_argument, in_block, behind_results, in_type, in_attribute, in_list, in_item, Move, goes_to, goes_in, goes_out, nowhere, move, Nests, NestsBy}
+use Rattle.ir_grammar.specs.Nesting.{Position, at_root, behind_root_results, at_end, in_operation, in_operands, in_successor, in_region, in_header, in_argument, in_block, behind_results, in_type, in_attribute, in_list, in_item, Move, goes_to, goes_in, goes_out, nowhere, move, Nests, NestsBy}
 use Rattle.ir_forest.proofs.BuiltSteps.{alone, opening, closing, sort_of, EndsBy, ends_by, end_sort, Says, says, Follows, nests_deeds}
 
--- What stands side by side: what an operation, a region or a block says, or pieces, among which no region begins.
+-- What stands side by side: what an operation, a region or a block says, or pieces, among which no region and no edge begins.
 pub data Content : Type 0 where
   of_pieces of_operation of_region of_block : Content
 
@@ -20,6 +20,7 @@ inside of_pieces EndOperation = None
 inside of_pieces BeginRegion = None
 inside of_pieces EndRegion = None
 inside of_pieces Label = None
+inside of_pieces BeginSuccessor = None
 inside of_pieces _ = Some of_pieces
 inside of_operation (Operation kind) = None
 inside of_operation EndOperation = None
@@ -34,6 +35,7 @@ inside of_block EndOperation = None
 inside of_block BeginRegion = None
 inside of_block EndRegion = None
 inside of_block Label = None
+inside of_block BeginSuccessor = None
 inside of_block _ = Some of_pieces
 
 -- what stands at a position
@@ -43,6 +45,7 @@ content_at behind_root_results = of_block
 content_at at_end = of_block
 content_at in_operation = of_operation
 content_at in_operands = of_pieces
+content_at in_successor = of_pieces
 content_at in_region = of_region
 content_at in_header = of_block
 content_at in_argument = of_block
@@ -75,6 +78,7 @@ operation_keeps : (a : Action) → Keeps in_operation a (move in_operation a)
 operation_keeps EndOperation = tt
 operation_keeps BeginRegion = (refl, refl)
 operation_keeps BeginOperands = (refl, refl)
+operation_keeps BeginSuccessor = (refl, refl)
 operation_keeps Name = (refl, refl)
 operation_keeps Number = (refl, refl)
 operation_keeps Width = (refl, refl)
@@ -116,6 +120,10 @@ item_keeps _ = tt
 operands_keeps : (a : Action) → Keeps in_operands a (move in_operands a)
 operands_keeps Operand = (refl, refl)
 operands_keeps _ = tt
+
+successor_keeps : (a : Action) → Keeps in_successor a (move in_successor a)
+successor_keeps Operand = (refl, refl)
+successor_keeps _ = tt
 
 list_keeps : (a : Action) → Keeps in_list a (move in_list a)
 list_keeps BeginItem = (refl, refl)
@@ -160,6 +168,7 @@ keeps behind_root_results a = root_results_keeps a
 keeps at_end a = tt
 keeps in_operation a = operation_keeps a
 keeps in_operands a = operands_keeps a
+keeps in_successor a = successor_keeps a
 keeps in_region a = region_keeps a
 keeps in_header a = header_keeps a
 keeps in_argument a = argument_keeps a

@@ -9,13 +9,13 @@ use Rattle.ir_forest.specs.Closed.{AllDistinct, label_in, labels_of, IsLabelled,
 use Rattle.ir_forest.specs.Forest.{ActionSpan, IsForestOf}
 use Rattle.ir_forest.specs.Meaning.{operations_in, renamed_head, renamed, all_renamed}
 use Rattle.ir_grammar.specs.Nesting.{Nests, at_root}
-use Rattle.ir_scopes.specs.Scopes.{labels, name_of, IsAgain, fault_again}
+use Rattle.ir_scopes.specs.Scopes.{labels, label_mentions, name_of, IsAgain, fault_again}
 use Rattle.ir_rereading.proofs.trees.TreeSites.{In, in_left, in_right, in_either, in_none}
 use Rattle.ir_rereading.proofs.trees.TreeRegions.{label_at, OfOperations, OfRegions, OfBlocks, labels_of_tree}
 
 -- ---- lists of distinct members
 
-first_or_more : {X : Type 0} (x y : X) (xs : List X) → In x (y ∷ xs) → (y ≡ x) ⊎ In x xs
+pub first_or_more : {X : Type 0} (x y : X) (xs : List X) → In x (y ∷ xs) → (y ≡ x) ⊎ In x xs
 first_or_more x y xs (zero, h) = inl (let same : y ≡ x = cc in same)
 first_or_more x y xs (suc i, h) = inr (i, h)
 
@@ -92,11 +92,13 @@ module _ (text : ℕ → List ℕ) where
   none_within P ss e s i = in_none s (subst (λ xs. In s xs) e i)
 
   mutual
-    operations_within : (low high : ℕ) (ts : Entities ℕ) (ss : List Site) → OfOperations text low high ts ss → (low ≤ high) × Within low high ss
-    operations_within low high no_entity ss h = (h.0, none_within (λ s. (low < s.scope) × (s.scope ≤ high)) ss h.1)
-    operations_within low high (an_entity (entity (operation kind results used pieces) us) ts) ss (a, b, c, first, more, e, le, between, here, later) =
-        let p = regions_within a b us first here in
-        let q = operations_within c high ts more later in
+    pub operations_within : (scope low high : ℕ) (ts : Entities ℕ) (ss ms : List Site) → OfOperations text scope low high ts ss ms
+        → (low ≤ high) × Within low high ss
+    operations_within scope low high no_entity ss ms h = (h.0, none_within (λ s. (low < s.scope) × (s.scope ≤ high)) ss h.1)
+    operations_within scope low high (an_entity (entity (operation kind results used successors pieces) us) ts) ss ms
+        (a, b, c, first, more, held, past, e, uses, le, between, here, later) =
+        let p = regions_within a b us first held here in
+        let q = operations_within scope c high ts more past later in
         let p' = p.0 in
         let q' = q.0 in (
           omega arith,
@@ -105,14 +107,14 @@ module _ (text : ℕ → List ℕ) where
             | inr x ↦ (let r = q.1 s x in (let l = r.0 in omega arith, let l = r.1 in omega arith))
           ],
         )
-    operations_within low high (an_entity (entity a_region us) ts) ss h = absurd h
-    operations_within low high (an_entity (entity (block label arguments) us) ts) ss h = absurd h
+    operations_within scope low high (an_entity (entity a_region us) ts) ss ms h = absurd h
+    operations_within scope low high (an_entity (entity (block named label arguments) us) ts) ss ms h = absurd h
 
-    regions_within : (low high : ℕ) (ts : Entities ℕ) (ss : List Site) → OfRegions text low high ts ss → (low ≤ high) × Within low high ss
-    regions_within low high no_entity ss h = (h.0, none_within (λ s. (low < s.scope) × (s.scope ≤ high)) ss h.1)
-    regions_within low high (an_entity (entity a_region us) ts) ss (scope, b, c, first, more, e, lt, between, here, later) =
-        let p = blocks_within scope scope b us first (omega arith) here in
-        let q = regions_within c high ts more later in
+    pub regions_within : (low high : ℕ) (ts : Entities ℕ) (ss ms : List Site) → OfRegions text low high ts ss ms → (low ≤ high) × Within low high ss
+    regions_within low high no_entity ss ms h = (h.0, none_within (λ s. (low < s.scope) × (s.scope ≤ high)) ss h.1)
+    regions_within low high (an_entity (entity a_region us) ts) ss ms (scope, b, c, first, more, held, past, e, uses, lt, between, here, later) =
+        let p = blocks_within scope scope b us first held (omega arith) here in
+        let q = regions_within c high ts more past later in
         let p' = p.0 in
         let q' = q.0 in (
           omega arith,
@@ -121,18 +123,20 @@ module _ (text : ℕ → List ℕ) where
             | inr x ↦ (let r = q.1 s x in (let l = r.0 in omega arith, let l = r.1 in omega arith))
           ],
         )
-    regions_within low high (an_entity (entity (operation kind results used pieces) us) ts) ss h = absurd h
-    regions_within low high (an_entity (entity (block label arguments) us) ts) ss h = absurd h
+    regions_within low high (an_entity (entity (operation kind results used successors pieces) us) ts) ss ms h = absurd h
+    regions_within low high (an_entity (entity (block named label arguments) us) ts) ss ms h = absurd h
 
-    blocks_within : (scope low high : ℕ) (ts : Entities ℕ) (ss : List Site) → scope ≤ low → OfBlocks text scope low high ts ss → (low ≤ high) × WithinOr scope low high ss
-    blocks_within scope low high no_entity ss le h = (h.0, none_within (λ s. (s.scope ≡ scope) ⊎ ((low < s.scope) × (s.scope ≤ high))) ss h.1)
-    blocks_within scope low high (an_entity (entity (block label arguments) us) ts) ss le (a, b, c, first, more, k, spelled, e, lt, between, here, later) =
-        let p = operations_within a b us first here in
+    pub blocks_within : (scope low high : ℕ) (ts : Entities ℕ) (ss ms : List Site) → scope ≤ low → OfBlocks text scope low high ts ss ms
+        → (low ≤ high) × WithinOr scope low high ss
+    blocks_within scope low high no_entity ss ms le h = (h.0, none_within (λ s. (s.scope ≡ scope) ⊎ ((low < s.scope) × (s.scope ≤ high))) ss h.1)
+    blocks_within scope low high (an_entity (entity (block named label arguments) us) ts) ss ms le
+        (a, b, c, first, more, held, past, spelled, e, uses, lt, between, here, later) =
+        let p = operations_within scope a b us first held here in
         let p' = p.0 in
-        let q = blocks_within scope c high ts more (omega arith) later in
+        let q = blocks_within scope c high ts more past (omega arith) later in
         let q' = q.0 in (
           omega arith,
-          λ s i. elim (first_or_more s (label_at scope k) (first ++ more) (subst (λ xs. In s xs) e i)) [
+          λ s i. elim (first_or_more s (label_at scope named) (first ++ more) (subst (λ xs. In s xs) e i)) [
             | inl same ↦ inl (sym (ap (λ x. x.scope) same))
             | inr x ↦ elim (in_either s first more x) [
               | inl y ↦ (let r = p.1 s y in inr (let l = r.0 in omega arith, let l = r.1 in omega arith))
@@ -140,51 +144,55 @@ module _ (text : ℕ → List ℕ) where
             ]
           ],
         )
-    blocks_within scope low high (an_entity (entity a_region us) ts) ss le h = absurd h
-    blocks_within scope low high (an_entity (entity (operation kind results used pieces) us) ts) ss le h = absurd h
+    blocks_within scope low high (an_entity (entity a_region us) ts) ss ms le h = absurd h
+    blocks_within scope low high (an_entity (entity (operation kind results used successors pieces) us) ts) ss ms le h = absurd h
 
   -- ---- sites and labels of one region
 
-  operations_no_labels : (low high : ℕ) (ts : Entities ℕ) (ss : List Site) → OfOperations text low high ts ss → labels_of ts ≡ []
-  operations_no_labels low high no_entity ss h = refl
-  operations_no_labels low high (an_entity (entity (operation kind results used pieces) us) ts) ss h = operations_no_labels h.2 high ts h.4 h.9
-  operations_no_labels low high (an_entity (entity a_region us) ts) ss h = absurd h
-  operations_no_labels low high (an_entity (entity (block label arguments) us) ts) ss h = absurd h
+  operations_no_labels : (scope low high : ℕ) (ts : Entities ℕ) (ss ms : List Site) → OfOperations text scope low high ts ss ms → labels_of ts ≡ []
+  operations_no_labels scope low high no_entity ss ms h = refl
+  operations_no_labels scope low high (an_entity (entity (operation kind results used successors pieces) us) ts) ss ms h = operations_no_labels scope h.2 high ts h.4 h.6 h.12
+  operations_no_labels scope low high (an_entity (entity a_region us) ts) ss ms h = absurd h
+  operations_no_labels scope low high (an_entity (entity (block named label arguments) us) ts) ss ms h = absurd h
 
-  regions_no_labels : (low high : ℕ) (ts : Entities ℕ) (ss : List Site) → OfRegions text low high ts ss → labels_of ts ≡ []
-  regions_no_labels low high no_entity ss h = refl
-  regions_no_labels low high (an_entity (entity a_region us) ts) ss h = regions_no_labels h.2 high ts h.4 h.9
-  regions_no_labels low high (an_entity (entity (operation kind results used pieces) us) ts) ss h = absurd h
-  regions_no_labels low high (an_entity (entity (block label arguments) us) ts) ss h = absurd h
+  regions_no_labels : (low high : ℕ) (ts : Entities ℕ) (ss ms : List Site) → OfRegions text low high ts ss ms → labels_of ts ≡ []
+  regions_no_labels low high no_entity ss ms h = refl
+  regions_no_labels low high (an_entity (entity a_region us) ts) ss ms h = regions_no_labels h.2 high ts h.4 h.6 h.12
+  regions_no_labels low high (an_entity (entity (operation kind results used successors pieces) us) ts) ss ms h = absurd h
+  regions_no_labels low high (an_entity (entity (block named label arguments) us) ts) ss ms h = absurd h
 
   -- each label has a site
-  label_site : (scope low high : ℕ) (ts : Entities ℕ) (ss : List Site) → OfBlocks text scope low high ts ss → (x : List ℕ) → In x (labels_of ts) → (s : Site) × In s ss × (s.scope ≡ scope) × (text s.token ≡ x)
-  label_site scope low high no_entity ss h x i = in_none x i
-  label_site scope low high (an_entity (entity (block label arguments) us) ts) ss (a, b, c, first, more, k, spelled, e, lt, between, here, later) x i =
+  label_site : (scope low high : ℕ) (ts : Entities ℕ) (ss ms : List Site) → OfBlocks text scope low high ts ss ms → (x : List ℕ)
+      → In x (labels_of ts) → (s : Site) × In s ss × (s.scope ≡ scope) × (text s.token ≡ x)
+  label_site scope low high no_entity ss ms h x i = in_none x i
+  label_site scope low high (an_entity (entity (block named label arguments) us) ts) ss ms
+      (a, b, c, first, more, held, past, spelled, e, uses, lt, between, here, later) x i =
       elim (first_or_more x label (labels_of ts) i) [
-        | inl same ↦ (label_at scope k, subst (λ xs. In (label_at scope k) xs) (sym e) (0, refl), refl, sym spelled ∙ same)
-        | inr y ↦ (let r = label_site scope c high ts more later x y in
+        | inl same ↦ (label_at scope named, subst (λ xs. In (label_at scope named) xs) (sym e) (0, refl), refl, sym spelled ∙ same)
+        | inr y ↦ (let r = label_site scope c high ts more past later x y in
             let there = in_right r.0 first more r.1 in
             (r.0, subst (λ xs. In r.0 xs) (sym e) (suc there.0, there.1), r.2, r.3))
       ]
-  label_site scope low high (an_entity (entity a_region us) ts) ss h x i = absurd h
-  label_site scope low high (an_entity (entity (operation kind results used pieces) us) ts) ss h x i = absurd h
+  label_site scope low high (an_entity (entity a_region us) ts) ss ms h x i = absurd h
+  label_site scope low high (an_entity (entity (operation kind results used successors pieces) us) ts) ss ms h x i = absurd h
 
   -- each site of the region is that of a label
-  site_label : (scope low high : ℕ) (ts : Entities ℕ) (ss : List Site) → scope ≤ low → OfBlocks text scope low high ts ss → (s : Site) → In s ss → s.scope ≡ scope → In (text s.token) (labels_of ts)
-  site_label scope low high no_entity ss le h s i is = none_within (λ s. In (text s.token) []) ss h.1 s i
-  site_label scope low high (an_entity (entity (block label arguments) us) ts) ss le (a, b, c, first, more, k, spelled, e, lt, between, here, later) s i is =
-      let p = operations_within a b us first here in
+  site_label : (scope low high : ℕ) (ts : Entities ℕ) (ss ms : List Site) → scope ≤ low → OfBlocks text scope low high ts ss ms
+      → (s : Site) → In s ss → s.scope ≡ scope → In (text s.token) (labels_of ts)
+  site_label scope low high no_entity ss ms le h s i is = none_within (λ s. In (text s.token) []) ss h.1 s i
+  site_label scope low high (an_entity (entity (block named label arguments) us) ts) ss ms le
+      (a, b, c, first, more, held, past, spelled, e, uses, lt, between, here, later) s i is =
+      let p = operations_within scope a b us first held here in
       let p' = p.0 in
-      elim (first_or_more s (label_at scope k) (first ++ more) (subst (λ xs. In s xs) e i)) [
+      elim (first_or_more s (label_at scope named) (first ++ more) (subst (λ xs. In s xs) e i)) [
         | inl same ↦ (0, ap (λ y. Some y) (spelled ∙ ap (λ y. text y.token) same))
         | inr x ↦ elim (in_either s first more x) [
           | inl y ↦ absurd (let l = (p.1 s y).0 in omega arith)
-          | inr y ↦ (let r = site_label scope c high ts more (omega arith) later s y is in (suc r.0, r.1))
+          | inr y ↦ (let r = site_label scope c high ts more past (omega arith) later s y is in (suc r.0, r.1))
         ]
       ]
-  site_label scope low high (an_entity (entity a_region us) ts) ss le h s i is = absurd h
-  site_label scope low high (an_entity (entity (operation kind results used pieces) us) ts) ss le h s i is = absurd h
+  site_label scope low high (an_entity (entity a_region us) ts) ss ms le h s i is = absurd h
+  site_label scope low high (an_entity (entity (operation kind results used successors pieces) us) ts) ss ms le h s i is = absurd h
 
   -- ---- from sites to labels
 
@@ -199,41 +207,47 @@ module _ (text : ℕ → List ℕ) where
     among_more ss first more e sub s i = sub s (subst (λ xs. In s xs) (sym e) (in_right s first more i))
 
     mutual
-      operations_labelled : (low high : ℕ) (ts : Entities ℕ) (ss : List Site) → OfOperations text low high ts ss → Among ss → AllApart names ss → AreLabelled ts
-      operations_labelled low high no_entity ss h sub apart = tt
-      operations_labelled low high (an_entity (entity (operation kind results used pieces) us) ts) ss (a, b, c, first, more, e, le, between, here, later) sub apart =
+      operations_labelled : (scope low high : ℕ) (ts : Entities ℕ) (ss ms : List Site) → OfOperations text scope low high ts ss ms
+          → Among ss → AllApart names ss → AreLabelled ts
+      operations_labelled scope low high no_entity ss ms h sub apart = tt
+      operations_labelled scope low high (an_entity (entity (operation kind results used successors pieces) us) ts) ss ms
+          (a, b, c, first, more, held, past, e, uses, le, between, here, later) sub apart =
           let parts = split_apart names first more (subst (λ xs. AllApart names xs) e apart) in (
-            (none_distinct (labels_of us) (regions_no_labels a b us first here), regions_labelled a b us first here (among_first ss first more e sub) parts.0),
-            operations_labelled c high ts more later (among_more ss first more e sub) parts.1,
+            (none_distinct (labels_of us) (regions_no_labels a b us first held here), regions_labelled a b us first held here (among_first ss first more e sub) parts.0),
+            operations_labelled scope c high ts more past later (among_more ss first more e sub) parts.1,
           )
-      operations_labelled low high (an_entity (entity a_region us) ts) ss h sub apart = absurd h
-      operations_labelled low high (an_entity (entity (block label arguments) us) ts) ss h sub apart = absurd h
+      operations_labelled scope low high (an_entity (entity a_region us) ts) ss ms h sub apart = absurd h
+      operations_labelled scope low high (an_entity (entity (block named label arguments) us) ts) ss ms h sub apart = absurd h
 
-      regions_labelled : (low high : ℕ) (ts : Entities ℕ) (ss : List Site) → OfRegions text low high ts ss → Among ss → AllApart names ss → AreLabelled ts
-      regions_labelled low high no_entity ss h sub apart = tt
-      regions_labelled low high (an_entity (entity a_region us) ts) ss (scope, b, c, first, more, e, le, between, here, later) sub apart =
+      regions_labelled : (low high : ℕ) (ts : Entities ℕ) (ss ms : List Site) → OfRegions text low high ts ss ms → Among ss
+          → AllApart names ss → AreLabelled ts
+      regions_labelled low high no_entity ss ms h sub apart = tt
+      regions_labelled low high (an_entity (entity a_region us) ts) ss ms
+          (scope, b, c, first, more, held, past, e, uses, le, between, here, later) sub apart =
           let parts = split_apart names first more (subst (λ xs. AllApart names xs) e apart) in
-          (blocks_labelled scope scope b us first here (among_first ss first more e sub) parts.0, regions_labelled c high ts more later (among_more ss first more e sub) parts.1)
-      regions_labelled low high (an_entity (entity (operation kind results used pieces) us) ts) ss h sub apart = absurd h
-      regions_labelled low high (an_entity (entity (block label arguments) us) ts) ss h sub apart = absurd h
+          (blocks_labelled scope scope b us first held here (among_first ss first more e sub) parts.0, regions_labelled c high ts more past later (among_more ss first more e sub) parts.1)
+      regions_labelled low high (an_entity (entity (operation kind results used successors pieces) us) ts) ss ms h sub apart = absurd h
+      regions_labelled low high (an_entity (entity (block named label arguments) us) ts) ss ms h sub apart = absurd h
 
-      blocks_labelled : (scope low high : ℕ) (ts : Entities ℕ) (ss : List Site) → OfBlocks text scope low high ts ss → Among ss → AllApart names ss → AllDistinct (labels_of ts) × AreLabelled ts
-      blocks_labelled scope low high no_entity ss h sub apart = (none_distinct [] refl, tt)
-      blocks_labelled scope low high (an_entity (entity (block label arguments) us) ts) ss (a, b, c, first, more, k, spelled, e, lt, between, here, later) sub apart =
-          let split : AllApart names (label_at scope k ∷ (first ++ more)) = subst (λ xs. AllApart names xs) e apart in
+      blocks_labelled : (scope low high : ℕ) (ts : Entities ℕ) (ss ms : List Site) → OfBlocks text scope low high ts ss ms → Among ss
+          → AllApart names ss → AllDistinct (labels_of ts) × AreLabelled ts
+      blocks_labelled scope low high no_entity ss ms h sub apart = (none_distinct [] refl, tt)
+      blocks_labelled scope low high (an_entity (entity (block named label arguments) us) ts) ss ms
+          (a, b, c, first, more, held, past, spelled, e, uses, lt, between, here, later) sub apart =
+          let split : AllApart names (label_at scope named ∷ (first ++ more)) = subst (λ xs. AllApart names xs) e apart in
           let parts = split_apart names first more split.1 in
           let inner : Among (first ++ more) = λ s i. sub s (subst (λ xs. In s xs) (sym e) (suc i.0, i.1)) in
-          let rest = blocks_labelled scope c high ts more later (among_more (first ++ more) first more refl inner) parts.1 in (
-            distinct_with label (labels_of ts) (λ again. (let other = label_site scope c high ts more later label again in
+          let rest = blocks_labelled scope c high ts more past later (among_more (first ++ more) first more refl inner) parts.1 in (
+            distinct_with label (labels_of ts) (λ again. (let other = label_site scope c high ts more past later label again in
                 split.0 other.0 (in_right other.0 first more other.1)
-                (other.2, alike other.0 (label_at scope k) (inner other.0 (in_right other.0 first more other.1)) (sub (label_at scope k) (subst (λ xs. In (label_at scope k) xs) (sym e) (0, refl))) (other.3 ∙ spelled)))) rest.0,
+                (other.2, alike other.0 (label_at scope named) (inner other.0 (in_right other.0 first more other.1)) (sub (label_at scope named) (subst (λ xs. In (label_at scope named) xs) (sym e) (0, refl))) (other.3 ∙ spelled)))) rest.0,
             (
-              (none_distinct (labels_of us) (operations_no_labels a b us first here), operations_labelled a b us first here (among_first (first ++ more) first more refl inner) parts.0),
+              (none_distinct (labels_of us) (operations_no_labels scope a b us first held here), operations_labelled scope a b us first held here (among_first (first ++ more) first more refl inner) parts.0),
               rest.1,
             ),
           )
-      blocks_labelled scope low high (an_entity (entity a_region us) ts) ss h sub apart = absurd h
-      blocks_labelled scope low high (an_entity (entity (operation kind results used pieces) us) ts) ss h sub apart = absurd h
+      blocks_labelled scope low high (an_entity (entity a_region us) ts) ss ms h sub apart = absurd h
+      blocks_labelled scope low high (an_entity (entity (operation kind results used successors pieces) us) ts) ss ms h sub apart = absurd h
 
   -- ---- from labels to sites
 
@@ -248,51 +262,57 @@ module _ (text : ℕ → List ℕ) where
     stand_more ss first more e sub s i = sub s (subst (λ xs. In s xs) (sym e) (in_right s first more i))
 
     mutual
-      operations_apart : (low high : ℕ) (ts : Entities ℕ) (ss : List Site) → OfOperations text low high ts ss → Stand ss → AreLabelled ts → AllApart names ss
-      operations_apart low high no_entity ss h sub l = subst (λ xs. AllApart names xs) (sym h.1) tt
-      operations_apart low high (an_entity (entity (operation kind results used pieces) us) ts) ss (a, b, c, first, more, e, le, between, here, later) sub l =
-          let p = regions_within a b us first here in
-          let q = operations_within c high ts more later in
+      operations_apart : (scope low high : ℕ) (ts : Entities ℕ) (ss ms : List Site) → OfOperations text scope low high ts ss ms → Stand ss
+          → AreLabelled ts → AllApart names ss
+      operations_apart scope low high no_entity ss ms h sub l = subst (λ xs. AllApart names xs) (sym h.1) tt
+      operations_apart scope low high (an_entity (entity (operation kind results used successors pieces) us) ts) ss ms
+          (a, b, c, first, more, held, past, e, uses, le, between, here, later) sub l =
+          let p = regions_within a b us first held here in
+          let q = operations_within scope c high ts more past later in
           subst (λ xs. AllApart names xs) (sym e)
-          (join_apart names first more (regions_apart a b us first here (stand_first ss first more e sub) l.0.1) (operations_apart c high ts more later (stand_more ss first more e sub) l.1)
+          (join_apart names first more (regions_apart a b us first held here (stand_first ss first more e sub) l.0.1) (operations_apart scope c high ts more past later (stand_more ss first more e sub) l.1)
           (λ s t i j same. (let x = (p.1 s i).1 in let y = (q.1 t j).0 in omega arith)))
-      operations_apart low high (an_entity (entity a_region us) ts) ss h sub l = absurd h
-      operations_apart low high (an_entity (entity (block label arguments) us) ts) ss h sub l = absurd h
+      operations_apart scope low high (an_entity (entity a_region us) ts) ss ms h sub l = absurd h
+      operations_apart scope low high (an_entity (entity (block named label arguments) us) ts) ss ms h sub l = absurd h
 
-      regions_apart : (low high : ℕ) (ts : Entities ℕ) (ss : List Site) → OfRegions text low high ts ss → Stand ss → AreLabelled ts → AllApart names ss
-      regions_apart low high no_entity ss h sub l = subst (λ xs. AllApart names xs) (sym h.1) tt
-      regions_apart low high (an_entity (entity a_region us) ts) ss (scope, b, c, first, more, e, le, between, here, later) sub l =
-          let p = blocks_within scope scope b us first (omega arith) here in
-          let q = regions_within c high ts more later in
+      regions_apart : (low high : ℕ) (ts : Entities ℕ) (ss ms : List Site) → OfRegions text low high ts ss ms → Stand ss → AreLabelled ts
+          → AllApart names ss
+      regions_apart low high no_entity ss ms h sub l = subst (λ xs. AllApart names xs) (sym h.1) tt
+      regions_apart low high (an_entity (entity a_region us) ts) ss ms
+          (scope, b, c, first, more, held, past, e, uses, le, between, here, later) sub l =
+          let p = blocks_within scope scope b us first held (omega arith) here in
+          let q = regions_within c high ts more past later in
           let p' = p.0 in
           subst (λ xs. AllApart names xs) (sym e)
-          (join_apart names first more (blocks_apart scope scope b us first (omega arith) here (stand_first ss first more e sub) l.0.0 l.0.1) (regions_apart c high ts more later (stand_more ss first more e sub) l.1)
+          (join_apart names first more (blocks_apart scope scope b us first held (omega arith) here (stand_first ss first more e sub) l.0.0 l.0.1) (regions_apart c high ts more past later (stand_more ss first more e sub) l.1)
           (λ s t i j same. (let y = (q.1 t j).0 in elim (p.1 s i) [ inl x ↦ omega arith | inr x ↦ (let z = x.1 in omega arith) ])))
-      regions_apart low high (an_entity (entity (operation kind results used pieces) us) ts) ss h sub l = absurd h
-      regions_apart low high (an_entity (entity (block label arguments) us) ts) ss h sub l = absurd h
+      regions_apart low high (an_entity (entity (operation kind results used successors pieces) us) ts) ss ms h sub l = absurd h
+      regions_apart low high (an_entity (entity (block named label arguments) us) ts) ss ms h sub l = absurd h
 
-      blocks_apart : (scope low high : ℕ) (ts : Entities ℕ) (ss : List Site) → scope ≤ low → OfBlocks text scope low high ts ss → Stand ss → AllDistinct (labels_of ts) → AreLabelled ts → AllApart names ss
-      blocks_apart scope low high no_entity ss le h sub d l = subst (λ xs. AllApart names xs) (sym h.1) tt
-      blocks_apart scope low high (an_entity (entity (block label arguments) us) ts) ss le (a, b, c, first, more, k, spelled, e, lt, between, here, later) sub d l =
-          let p = operations_within a b us first here in
+      blocks_apart : (scope low high : ℕ) (ts : Entities ℕ) (ss ms : List Site) → scope ≤ low → OfBlocks text scope low high ts ss ms
+          → Stand ss → AllDistinct (labels_of ts) → AreLabelled ts → AllApart names ss
+      blocks_apart scope low high no_entity ss ms le h sub d l = subst (λ xs. AllApart names xs) (sym h.1) tt
+      blocks_apart scope low high (an_entity (entity (block named label arguments) us) ts) ss ms le
+          (a, b, c, first, more, held, past, spelled, e, uses, lt, between, here, later) sub d l =
+          let p = operations_within scope a b us first held here in
           let p' = p.0 in
           let above : scope ≤ c = omega arith in
-          let q = blocks_within scope c high ts more above later in
+          let q = blocks_within scope c high ts more past above later in
           let inner : Stand (first ++ more) = λ s i. sub s (subst (λ xs. In s xs) (sym e) (suc i.0, i.1)) in
-          let here_in : In (label_at scope k) all = sub (label_at scope k) (subst (λ xs. In (label_at scope k) xs) (sym e) (0, refl)) in
+          let here_in : In (label_at scope named) all = sub (label_at scope named) (subst (λ xs. In (label_at scope named) xs) (sym e) (0, refl)) in
           subst (λ xs. AllApart names xs) (sym e) (
             (λ t i same. elim (in_either t first more i) [
               | inl x ↦ (let y = (p.1 t x).0 in let z : t.scope ≡ scope = same.0 in omega arith)
-              | inr x ↦ (let there = site_label scope c high ts more above later t x same.0 in
-                  let equal : text t.token ≡ label = alike t (label_at scope k) (inner t (in_right t first more x)) here_in same.1 ∙ sym spelled in
+              | inr x ↦ (let there = site_label scope c high ts more past above later t x same.0 in
+                  let equal : text t.token ≡ label = alike t (label_at scope named) (inner t (in_right t first more x)) here_in same.1 ∙ sym spelled in
                   distinct_new label (labels_of ts) d (subst (λ y. In y (labels_of ts)) equal there))
             ]),
-            join_apart names first more (operations_apart a b us first here (stand_first (first ++ more) first more refl inner) l.0.1)
-                (blocks_apart scope c high ts more above later (stand_more (first ++ more) first more refl inner) (distinct_more label (labels_of ts) d) l.1)
+            join_apart names first more (operations_apart scope a b us first held here (stand_first (first ++ more) first more refl inner) l.0.1)
+                (blocks_apart scope c high ts more past above later (stand_more (first ++ more) first more refl inner) (distinct_more label (labels_of ts) d) l.1)
                 (λ s t i j same. (let x = p.1 s i in let x0 = x.0 in let x1 = x.1 in elim (q.1 t j) [ inl y ↦ omega arith | inr y ↦ (let z = y.0 in omega arith) ])),
           )
-      blocks_apart scope low high (an_entity (entity a_region us) ts) ss le h sub d l = absurd h
-      blocks_apart scope low high (an_entity (entity (operation kind results used pieces) us) ts) ss le h sub d l = absurd h
+      blocks_apart scope low high (an_entity (entity a_region us) ts) ss ms le h sub d l = absurd h
+      blocks_apart scope low high (an_entity (entity (operation kind results used successors pieces) us) ts) ss ms le h sub d l = absurd h
 
 -- ---- texts
 
@@ -303,7 +323,7 @@ module _ (isolated : ℕ → Bool) (v : Values) (text : ℕ → List ℕ) (names
       → ((f : Fault) → IsAgain names (labels isolated es) f → ⊥) → IsLabelled tree
   tree_labelled alike never =
       let r = labels_of_tree isolated v text es forest tree nests is says in
-      (operations_labelled text names (labels isolated es) (λ s t i j e. alike i.0 j.0 s t i.1 j.1 e) 0 r.0 (an_entity tree no_entity) (labels isolated es) r.1 (λ s i. i) (never_apart names (labels isolated es) never)).0
+      (operations_labelled text names (labels isolated es) (λ s t i j e. alike i.0 j.0 s t i.1 j.1 e) 0 0 r.0 (an_entity tree no_entity) (labels isolated es) (label_mentions isolated es) r.1 (λ s i. i) (never_apart names (labels isolated es) never)).0
 
   -- Where the blocks of each region of the tree have distinct labels, no label of the text comes again in its region.
   pub labels_apart : ((i j : ℕ) (s t : Site) → slice_get (labels isolated es) i ≡ Some s → slice_get (labels isolated es) j ≡ Some t → name_of names s.token ≡ name_of names t.token → text s.token ≡ text t.token)
@@ -311,33 +331,33 @@ module _ (isolated : ℕ → Bool) (v : Values) (text : ℕ → List ℕ) (names
   labels_apart alike labelled =
       let r = labels_of_tree isolated v text es forest tree nests is says in
       apart_never names (labels isolated es)
-      (operations_apart text names (labels isolated es) (λ s t i j e. alike i.0 j.0 s t i.1 j.1 e) 0 r.0 (an_entity tree no_entity) (labels isolated es) r.1 (λ s i. i) (labelled, tt))
+      (operations_apart text names (labels isolated es) (λ s t i j e. alike i.0 j.0 s t i.1 j.1 e) 0 0 r.0 (an_entity tree no_entity) (labels isolated es) (label_mentions isolated es) r.1 (λ s i. i) (labelled, tt))
 
 -- ---- other names
 
-module _ {M N : Type 0} (f : M → N) where
-  label_renamed : (h : EntityHead M) → label_in (renamed_head f h) ≡ label_in h
-  label_renamed (operation kind results used pieces) = refl
+module _ {M N : Type 0} (f g : M → N) where
+  label_renamed : (h : EntityHead M) → label_in (renamed_head f g h) ≡ label_in h
+  label_renamed (operation kind results used successors pieces) = refl
   label_renamed a_region = refl
-  label_renamed (block label arguments) = refl
+  label_renamed (block named label arguments) = refl
 
-  labels_renamed : (ts : Entities M) → labels_of (all_renamed f ts) ≡ labels_of ts
+  labels_renamed : (ts : Entities M) → labels_of (all_renamed f g ts) ≡ labels_of ts
   labels_renamed no_entity = refl
-  labels_renamed (an_entity (entity h us) ts) = ap (λ (xs : List (List ℕ)). xs ++ labels_of (all_renamed f ts)) (label_renamed h) ∙ ap (λ (xs : List (List ℕ)). label_in h ++ xs) (labels_renamed ts)
+  labels_renamed (an_entity (entity h us) ts) = ap (λ (xs : List (List ℕ)). xs ++ labels_of (all_renamed f g ts)) (label_renamed h) ∙ ap (λ (xs : List (List ℕ)). label_in h ++ xs) (labels_renamed ts)
 
   mutual
-    -- other names of values change no labels
-    pub renamed_labelled : (t : Entity M) → IsLabelled t → IsLabelled (renamed f t)
+    -- other names of values and blocks change no labels
+    pub renamed_labelled : (t : Entity M) → IsLabelled t → IsLabelled (renamed f g t)
     renamed_labelled (entity h ts) l = (subst (λ (xs : List (List ℕ)). AllDistinct xs) (sym (labels_renamed ts)) l.0, all_renamed_labelled ts l.1)
 
-    all_renamed_labelled : (ts : Entities M) → AreLabelled ts → AreLabelled (all_renamed f ts)
+    all_renamed_labelled : (ts : Entities M) → AreLabelled ts → AreLabelled (all_renamed f g ts)
     all_renamed_labelled no_entity l = tt
     all_renamed_labelled (an_entity t ts) l = (renamed_labelled t l.0, all_renamed_labelled ts l.1)
 
   mutual
-    pub labelled_renamed : (t : Entity M) → IsLabelled (renamed f t) → IsLabelled t
+    pub labelled_renamed : (t : Entity M) → IsLabelled (renamed f g t) → IsLabelled t
     labelled_renamed (entity h ts) l = (subst (λ (xs : List (List ℕ)). AllDistinct xs) (labels_renamed ts) l.0, all_labelled_renamed ts l.1)
 
-    all_labelled_renamed : (ts : Entities M) → AreLabelled (all_renamed f ts) → AreLabelled ts
+    all_labelled_renamed : (ts : Entities M) → AreLabelled (all_renamed f g ts) → AreLabelled ts
     all_labelled_renamed no_entity l = tt
     all_labelled_renamed (an_entity t ts) l = (labelled_renamed t l.0, all_labelled_renamed ts l.1)

@@ -111,7 +111,7 @@ module _ (names : List ℕ) (values labels : Names) (values_meant : AllMean name
       definitions = numbers;
       count = length values.definitions;
       labels = length labels.definitions;
-      counts = record { operations = 0; regions = 0; mentions = 0 };
+      counts = record { operations = 0; regions = 0; mentions = 0; edges = 0 };
     },
     record {
       count = refl;

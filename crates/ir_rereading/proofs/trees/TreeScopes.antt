@@ -8,7 +8,7 @@ use Rattle.ir_grammar.specs.declared.grammar.Event.{Event}
 use Rattle.ir_tokens.specs.declared.faults.Fault.{Fault}
 use Rattle.ir_scopes.specs.declared.scopes.Resolution.{Resolution}
 use Rattle.ir_scopes.specs.declared.sites.Site.{Site}
-use Rattle.ir_forest.specs.Closed.{AreIn, AllDistinct, defined_by, mentioned_by, all_defined, all_mentioned, definitions_of, all_definitions_of, IsScoped, AreScoped, IsScopedRoot, IsNumbered}
+use Rattle.ir_forest.specs.Closed.{AreIn, AllDistinct, defined_by, mentioned_by, all_defined, all_mentioned, definitions_of, all_definitions_of, IsScoped, AreScoped, IsScopedRoot}
 use Rattle.ir_forest.specs.Forest.{ActionSpan, IsForestOf}
 use Rattle.ir_forest.specs.Meaning.{operations_in, renamed, all_renamed}
 use Rattle.ir_grammar.specs.Nesting.{at_root, at_end}
@@ -25,14 +25,15 @@ use Rattle.ir_rereading.proofs.trees.TreeWalks.{root_known}
 -- ---- lists of numbers
 
 -- numbers that count from one on
-counted : (xs : List ℕ) (n : ℕ) → ((j x : ℕ) → slice_get xs j ≡ Some x → x ≡ n + j) → xs ≡ range_with_len n (length xs)
+pub counted : (xs : List ℕ) (n : ℕ) → ((j x : ℕ) → slice_get xs j ≡ Some x → x ≡ n + j) → xs ≡ range_with_len n (length xs)
 counted [] n h = refl
 counted (x ∷ xs) n h =
     let first : x ≡ n = (let e = h 0 x refl in omega arith) in
     let more = counted xs (n + 1) (λ j y at. (let e = h (suc j) y at in omega arith)) in
     ap (λ y. y ∷ xs) first ∙ ap (λ ys. n ∷ ys) more
 
-get_map : {X Y : Type 0} (f : X → Y) (xs : List X) (i : ℕ) (y : Y) → slice_get (map f xs) i ≡ Some y → (x : X) × (slice_get xs i ≡ Some x) × (f x ≡ y)
+pub get_map : {X Y : Type 0} (f : X → Y) (xs : List X) (i : ℕ) (y : Y) → slice_get (map f xs) i ≡ Some y
+    → (x : X) × (slice_get xs i ≡ Some x) × (f x ≡ y)
 get_map f [] i y h = let wrong : None ≡ Some y = h in cc
 get_map f (x ∷ xs) zero y h = (x, refl, (let same : Some (f x) ≡ Some y = h in cc))
 get_map f (x ∷ xs) (suc i) y h = get_map f xs i y h
@@ -56,9 +57,9 @@ module _ (isolated : ℕ → Bool) (values : Values) (text : ℕ → List ℕ) (
     (says : operations_in values text [] forest ≡ an_entity tree no_entity) (leads : Leads at_root [] es at_end []) (named : (f : Fault) → HasNamesFault values text es f → ⊥) where
   module _ {N : Type 0} (g : ℕ → N) where
     -- what the text has of names, by its tree
-    known : Has isolated g beginning es (definitions_of tree ++ []) (defined_by isolated tree ++ []) (mentioned_by isolated tree ++ []) (operands_of tree ++ []) (IsScoped isolated false (renamed g tree) × Unit {0})
+    known : Has isolated g beginning es (definitions_of tree ++ []) (defined_by isolated tree ++ []) (mentioned_by isolated tree ++ []) (operands_of tree ++ []) (IsScoped isolated false (renamed g g tree) × Unit {0})
     known =
-        subst (λ ts. Has isolated g beginning es (all_definitions_of ts) (all_defined isolated ts) (all_mentioned isolated ts) (all_operands_of ts) (AreScoped isolated false (all_renamed g ts))) says
+        subst (λ ts. Has isolated g beginning es (all_definitions_of ts) (all_defined isolated ts) (all_mentioned isolated ts) (all_operands_of ts) (AreScoped isolated false (all_renamed g g ts))) says
         (root_known isolated values text g forest read.0 (forest_placed es forest read leads) (forest_counts values text es named forest read) beginning es (omega arith) read.1)
 
     defined_here : (k : ℕ) → In k (defined_by isolated tree) → In (site isolated 0 k) (definitions isolated es)
@@ -88,20 +89,20 @@ module _ (isolated : ℕ → Bool) (values : Values) (text : ℕ → List ℕ) (
         (site isolated 0 k.0, defined_here k.0 k.1, sym e, k.2)
 
     -- Where each mention means a definition, the renamed tree is scoped.
-    pub meant_scoped : AllMeant isolated es g → IsScopedRoot isolated (renamed g tree)
+    pub meant_scoped : AllMeant isolated es g → IsScopedRoot isolated (renamed g g tree)
     meant_scoped h = (
-      subst (λ xs. AreIn xs (defined_by isolated (renamed g tree))) (sym (mentioned_renamed g isolated tree))
-          (subst (λ ys. AreIn (map g (mentioned_by isolated tree)) ys) (sym (defined_renamed g isolated tree)) (root_scope h)),
+      subst (λ xs. AreIn xs (defined_by isolated (renamed g g tree))) (sym (mentioned_renamed g g isolated tree))
+          (subst (λ ys. AreIn (map g (mentioned_by isolated tree)) ys) (sym (defined_renamed g g isolated tree)) (root_scope h)),
       (known.down (λ m i off. h m i)).0,
     )
 
     -- Where the renamed tree is scoped, each mention means a definition.
-    pub scoped_meant : IsScopedRoot isolated (renamed g tree) → AllMeant isolated es g
+    pub scoped_meant : IsScopedRoot isolated (renamed g g tree) → AllMeant isolated es g
     scoped_meant h m i = go (known.mentions_stand m i)
       where
         root : AreIn (map g (mentioned_by isolated tree)) (map g (defined_by isolated tree))
-        root = subst (λ xs. AreIn xs (map g (defined_by isolated tree))) (mentioned_renamed g isolated tree)
-            (subst (λ ys. AreIn (mentioned_by isolated (renamed g tree)) ys) (defined_renamed g isolated tree) h.0)
+        root = subst (λ xs. AreIn xs (map g (defined_by isolated tree))) (mentioned_renamed g g isolated tree)
+            (subst (λ ys. AreIn (mentioned_by isolated (renamed g g tree)) ys) (defined_renamed g g isolated tree) h.0)
 
         go : Stands isolated beginning es m → (d : Site) × In d (definitions isolated es) × (d.scope ≡ m.scope) × (g d.token ≡ g m.token)
         go (inl e) = root_meant root m i e
@@ -131,14 +132,15 @@ module _ (isolated : ℕ → Bool) (values : Values) (text : ℕ → List ℕ) (
         )
 
     -- Where the names of a text are looked up, its tree is scoped.
-    pub numbers_scoped : IsScopedRoot isolated (renamed (slice_index r.definitions) tree)
+    pub numbers_scoped : IsScopedRoot isolated (renamed (slice_index r.definitions) (slice_index r.definitions) tree)
     numbers_scoped = meant_scoped (slice_index r.definitions) numbers_meant
 
     -- Its definitions have the numbers from 0 on.
-    pub numbers_numbered : IsNumbered (renamed (slice_index r.definitions) tree)
-    numbers_numbered =
-        counted (definitions_of (renamed (slice_index r.definitions) tree)) 0 (λ j x at.
-        (let found = get_map (slice_index r.definitions) (definitions_of tree) j x (subst (λ xs. slice_get xs j ≡ Some x) (definitions_renamed (slice_index r.definitions) tree) at) in
+    pub numbers_counted : definitions_of (renamed (slice_index r.definitions) (slice_index r.definitions) tree)
+        ≡ range_with_len 0 (length (definitions_of (renamed (slice_index r.definitions) (slice_index r.definitions) tree)))
+    numbers_counted =
+        counted (definitions_of (renamed (slice_index r.definitions) (slice_index r.definitions) tree)) 0 (λ j x at.
+        (let found = get_map (slice_index r.definitions) (definitions_of tree) j x (subst (λ xs. slice_get xs j ≡ Some x) (definitions_renamed (slice_index r.definitions) (slice_index r.definitions) tree) at) in
         let s = get_map (λ (s : Site). s.token) (definitions isolated es) j found.0 (subst (λ xs. slice_get xs j ≡ Some found.0) definition_tokens found.1) in
         let is : slice_index r.definitions s.0.token ≡ j = resolved.values.defined j s.0 s.1 (within s.0 (j, s.1)) in
         let same : slice_index r.definitions s.0.token ≡ x = ap (slice_index r.definitions) s.2 ∙ found.2 in
@@ -146,7 +148,7 @@ module _ (isolated : ℕ → Bool) (values : Values) (text : ℕ → List ℕ) (
 
   -- ---- from a tree to its text
 
-  module _ (names : List ℕ) (distinct : AllDistinct (definitions_of (renamed text tree))) (scoped : IsScopedRoot isolated (renamed text tree))
+  module _ (names : List ℕ) (distinct : AllDistinct (definitions_of (renamed text text tree))) (scoped : IsScopedRoot isolated (renamed text text tree))
       (spelled : (j k : ℕ) → NamesValue isolated es j → NamesValue isolated es k → name_of names j ≡ name_of names k → text j ≡ text k)
       (numbered : (j k : ℕ) → NamesValue isolated es j → NamesValue isolated es k → text j ≡ text k → name_of names j ≡ name_of names k) where
     -- each mention means a definition
@@ -155,9 +157,10 @@ module _ (isolated : ℕ → Bool) (values : Values) (text : ℕ → List ℕ) (
         let d = scoped_meant text scoped m (i, at) in
         (d.1.0, (d.0, d.1.1, (d.2, numbered d.0.token m.token (d.0, inl d.1, refl) (m, inr (i, at), refl) d.3)))
 
-    definition_text : (i : ℕ) (s : Site) → slice_get (definitions isolated es) i ≡ Some s → slice_get (definitions_of (renamed text tree)) i ≡ Some (text s.token)
+    definition_text : (i : ℕ) (s : Site) → slice_get (definitions isolated es) i ≡ Some s
+        → slice_get (definitions_of (renamed text text tree)) i ≡ Some (text s.token)
     definition_text i s at =
-        subst (λ xs. slice_get xs i ≡ Some (text s.token)) (sym (definitions_renamed text tree))
+        subst (λ xs. slice_get xs i ≡ Some (text s.token)) (sym (definitions_renamed text text tree))
         (map_get text (definitions_of tree) i s.token
         (subst (λ xs. slice_get xs i ≡ Some s.token) (sym definition_tokens) (map_get (λ (s : Site). s.token) (definitions isolated es) i s at)))
 
@@ -166,7 +169,7 @@ module _ (isolated : ℕ → Bool) (values : Values) (text : ℕ → List ℕ) (
     none_again f (i, j, s, lt, at, earlier, is) =
         let t = earlier.0 in
         let same : text t.token ≡ text s.token = spelled t.token s.token (t, inl (i, earlier.1), refl) (s, inl (j, at), refl) earlier.2.1 in
-        let first : slice_get (definitions_of (renamed text tree)) i ≡ Some (text s.token) = definition_text i t earlier.1 ∙ ap (λ z. Some z) same in
+        let first : slice_get (definitions_of (renamed text text tree)) i ≡ Some (text s.token) = definition_text i t earlier.1 ∙ ap (λ z. Some z) same in
         let one : i ≡ j = distinct i j (text s.token) first (definition_text j s at) in
         omega arith
 

@@ -11,7 +11,7 @@ use Rattle.ir_forest.specs.Building.{with_name}
 use Rattle.ir_forest.specs.Closed.{AreIn, names_of, all_defined, all_mentioned, all_definitions_of, AreScoped}
 use Rattle.ir_forest.specs.Forest.{end_of, Deed, deeds_from, ActionSpan, ending, deeds_of, deeds_in, IsWholeStep, AreWhole}
 use Rattle.ir_forest.specs.Meaning.{pieces_in, tokens_in, operands_in, arguments_in, typed, operations_in, regions_in, blocks_in, all_renamed}
-use Rattle.ir_grammar.specs.Nesting.{Position, at_root, behind_root_results, at_end, in_operation, in_operands, in_region, in_header, in_argument, in_block, behind_results, in_type, in_attribute, in_list, in_item, move, piece_move}
+use Rattle.ir_grammar.specs.Nesting.{Position, at_root, behind_root_results, at_end, in_operation, in_operands, in_successor, in_region, in_header, in_argument, in_block, behind_results, in_type, in_attribute, in_list, in_item, move, piece_move}
 use Rattle.ir_scopes.specs.Scopes.{EventPlace}
 use Rattle.ir_rereading.proofs.trees.TreeCounts.{CountsAt, Counts}
 use Rattle.ir_rereading.proofs.trees.TreeParts.{IsDeed, one_deed, split_deeds, IsQuiet, Part, part_append, part_change, part_still, part_quiet, part_defines, part_mentions, part_bracket, has_operation, part_operation, part_region, part_scope}
@@ -67,7 +67,7 @@ module _ (isolated : ℕ → Bool) (values : Values) (text : ℕ → List ℕ) {
   abbrev QuietGoal : Trees ActionSpan → Type 0
   QuietGoal ts = (at : EventPlace) (es : List Event) → IsLow at → Reads at es ts → Part isolated g at es [] [] [] [] (Unit {0})
 
-  -- operands mention values
+  -- operands mention values, and so do those that an edge hands on
   abbrev OperandsGoal : Trees ActionSpan → Type 0
   OperandsGoal ts = (at : EventPlace) (es : List Event) → IsLow at → Reads at es ts → Part isolated g at es [] [] (tokens_in ts) (tokens_in ts) (Unit {0})
 
@@ -81,7 +81,7 @@ module _ (isolated : ℕ → Bool) (values : Values) (text : ℕ → List ℕ) {
 
   -- operands, and these regions, in an operation that is isolated or not
   abbrev RegionsPart : EventPlace → List Event → Bool → List ℕ → Entities ℕ → Type 0
-  RegionsPart at es b used rs = Part isolated g at es (all_definitions_of rs) (inner_defined b rs) (used ++ inner_mentioned b rs) (used ++ all_operands_of rs) (AreScoped isolated b (all_renamed g rs))
+  RegionsPart at es b used rs = Part isolated g at es (all_definitions_of rs) (inner_defined b rs) (used ++ inner_mentioned b rs) (used ++ all_operands_of rs) (AreScoped isolated b (all_renamed g g rs))
 
   -- what stands in an operation
   abbrev OperationGoal : Trees ActionSpan → Type 0
@@ -89,12 +89,12 @@ module _ (isolated : ℕ → Bool) (values : Values) (text : ℕ → List ℕ) {
 
   -- names that are defined first, and then these entities
   abbrev EntitiesPart : EventPlace → List Event → List ℕ → Entities ℕ → Type 0
-  EntitiesPart at es names ts = Part isolated g at es (names ++ all_definitions_of ts) (names ++ all_defined isolated ts) (all_mentioned isolated ts) (all_operands_of ts) (AreScoped isolated false (all_renamed g ts))
+  EntitiesPart at es names ts = Part isolated g at es (names ++ all_definitions_of ts) (names ++ all_defined isolated ts) (all_mentioned isolated ts) (all_operands_of ts) (AreScoped isolated false (all_renamed g g ts))
 
   -- the same where the names were defined before
   abbrev BehindPart : EventPlace → List Event → List ℕ → List ℕ → Entities ℕ → Type 0
   BehindPart at es before names ts = (all : List ℕ) × (own : List ℕ)
-      × Part isolated g at es all own (all_mentioned isolated ts) (all_operands_of ts) (AreScoped isolated false (all_renamed g ts))
+      × Part isolated g at es all own (all_mentioned isolated ts) (all_operands_of ts) (AreScoped isolated false (all_renamed g g ts))
       × (before ++ all ≡ names ++ all_definitions_of ts) × (before ++ own ≡ names ++ all_defined isolated ts)
 
   -- the blocks of a region
@@ -118,7 +118,7 @@ module _ (isolated : ℕ → Bool) (values : Values) (text : ℕ → List ℕ) {
   -- the root from here on, with these names of results before it
   abbrev RootGoal : List ℕ → Trees ActionSpan → Type 0
   RootGoal names ts = (at : EventPlace) (es : List Event) → IsLow at → Reads at es ts → (all : List ℕ) × (own : List ℕ)
-      × Has isolated g at es all own (all_mentioned isolated (operations_in values text names ts)) (all_operands_of (operations_in values text names ts)) (AreScoped isolated false (all_renamed g (operations_in values text names ts)))
+      × Has isolated g at es all own (all_mentioned isolated (operations_in values text names ts)) (all_operands_of (operations_in values text names ts)) (AreScoped isolated false (all_renamed g g (operations_in values text names ts)))
       × (names ++ all ≡ all_definitions_of (operations_in values text names ts)) × (names ++ own ≡ all_defined isolated (operations_in values text names ts))
 
   -- what is shown of trees, by the position where they begin
@@ -128,6 +128,7 @@ module _ (isolated : ℕ → Bool) (values : Values) (text : ℕ → List ℕ) {
   Goal at_end names ts = ts ≡ no_tree
   Goal in_operation names ts = OperationGoal ts
   Goal in_operands names ts = OperandsGoal ts
+  Goal in_successor names ts = OperandsGoal ts
   Goal in_region names ts = RegionGoal ts
   Goal in_header names ts = HeaderGoal ts
   Goal in_argument names ts = ArgumentGoal ts
@@ -155,6 +156,7 @@ module _ (isolated : ℕ → Bool) (values : Values) (text : ℕ → List ℕ) {
   none at_end names f m = refl
   none in_operation names f m = λ at es low read b e. operation_none at es b read
   none in_operands names f m = λ at es low read. part_still isolated g at es read
+  none in_successor names f m = λ at es low read. part_still isolated g at es read
   none in_region names f m = λ at es low inside read. part_still isolated g at es read
   none in_header names f m = absurd f
   none in_argument names f m = absurd f
@@ -235,7 +237,7 @@ module _ (isolated : ℕ → Bool) (values : Values) (text : ℕ → List ℕ) {
     operation_then first more at es low read b iso =
         let rs = regions_in values text rest in
         let us = operands_in rest in
-        beside_quiet at es (node (step_of a f l) ts) rest low read (all_definitions_of rs) (inner_defined b rs) (us ++ inner_mentioned b rs) (us ++ all_operands_of rs) (AreScoped isolated b (all_renamed g rs))
+        beside_quiet at es (node (step_of a f l) ts) rest low read (all_definitions_of rs) (inner_defined b rs) (us ++ inner_mentioned b rs) (us ++ all_operands_of rs) (AreScoped isolated b (all_renamed g g rs))
         (λ e. first at e low)
         (λ e c here around r. more (arrived isolated at e) c (low_behind at es (node (step_of a f l) ts) rest low read e here) r b (ap (λ (f : Frame). f.isolated) here ∙ iso))
 
@@ -287,21 +289,34 @@ module _ (isolated : ℕ → Bool) (values : Values) (text : ℕ → List ℕ) {
   operation_piece act.BeginList f l ts rest pl w inner more = operation_then act.BeginList act.Name f l ts rest (piece_quiet in_operation act.BeginList f l ts rest pl w (quiet_known ts inner)) more
   operation_piece _ f l ts rest pl w inner more = absurd pl
 
-  operands_part : (f l : ℕ) (ts rest : Trees ActionSpan) → OperandsGoal ts → OperationGoal rest → OperationGoal (a_tree (node (step_of act.BeginOperands f l) ts) rest)
-  operands_part f l ts rest inner more at es low read b iso =
-      let t : LabelledTree ActionSpan = node (step_of act.BeginOperands f l) ts in
+  -- operands, between an action that begins them and one that ends them
+  handed_part : (a x : Action) (f l : ℕ) (ts rest : Trees ActionSpan) → IsQuiet isolated a → IsQuiet isolated x → end_of a ≡ Some x
+      → OperandsGoal ts → OperationGoal rest
+      → (at : EventPlace) (es : List Event) → IsLow at → Reads at es (a_tree (node (step_of a f l) ts) rest) → (b : Bool) → at.here.isolated ≡ b
+      → RegionsPart at es b (tokens_in ts ++ operands_in rest) (regions_in values text rest)
+  handed_part a x f l ts rest q r e inner more at es low read b iso =
+      let t : LabelledTree ActionSpan = node (step_of a f l) ts in
       let rs = regions_in values text rest in
       let ks = tokens_in ts in
       let us = operands_in rest in
-      let Q : Type 0 = AreScoped isolated b (all_renamed g rs) in
+      let Q : Type 0 = AreScoped isolated b (all_renamed g g rs) in
       part_change isolated g at es (all_definitions_of rs) (inner_defined b rs) (ks ++ (us ++ inner_mentioned b rs)) (ks ++ (us ++ all_operands_of rs))
       (all_definitions_of rs) (inner_defined b rs) ((ks ++ us) ++ inner_mentioned b rs) ((ks ++ us) ++ all_operands_of rs) (Unit {0} × Q) Q
       refl (alike (inner_defined b rs)) (alike_is (ks ++ (us ++ inner_mentioned b rs)) ((ks ++ us) ++ inner_mentioned b rs) (sym (append_assoc ks us (inner_mentioned b rs))))
       (λ k h. subst (In k) (append_assoc ks us (all_operands_of rs)) h) (λ z. z.1) (λ q. (tt, q))
       (both at es t rest low read [] [] ks ks (all_definitions_of rs) (inner_defined b rs) (us ++ inner_mentioned b rs) (us ++ all_operands_of rs) (Unit {0}) Q
-      (λ e reads. part_bracket isolated g [] [] ks ks (Unit {0}) at e act.BeginOperands act.EndOperands f l (deeds_in ts) low reads (λ p. (refl, refl, refl, refl)) (λ p. (refl, refl, refl, refl))
-      (λ p i here around later r. inner p i (let same : p.here.values ≡ at.here.values = ap (λ (f : Frame). f.values) here in omega (arith, low, same, later)) r))
-      (λ e c here around r. more (arrived isolated at e) c (low_behind at es t rest low read e here) r b (ap (λ (f : Frame). f.isolated) here ∙ iso)))
+      (λ c reads. part_bracket isolated g [] [] ks ks (Unit {0}) at c a x f l (deeds_in ts) low (reads ∙ node_deeds a x f l ts e) q r
+      (λ p i here around later d. inner p i (let same : p.here.values ≡ at.here.values = ap (λ (f : Frame). f.values) here in omega (arith, low, same, later)) d))
+      (λ c d here around o. more (arrived isolated at c) d (low_behind at es t rest low read c here) o b (ap (λ (f : Frame). f.isolated) here ∙ iso)))
+
+  operands_part : (f l : ℕ) (ts rest : Trees ActionSpan) → OperandsGoal ts → OperationGoal rest
+      → OperationGoal (a_tree (node (step_of act.BeginOperands f l) ts) rest)
+  operands_part f l ts rest inner more = handed_part act.BeginOperands act.EndOperands f l ts rest (λ p. (refl, refl, refl, refl)) (λ p. (refl, refl, refl, refl)) refl inner more
+
+  -- an edge hands on operands, as they stand
+  edge_part : (f l : ℕ) (ts rest : Trees ActionSpan) → OperandsGoal ts → OperationGoal rest
+      → OperationGoal (a_tree (node (step_of act.BeginSuccessor f l) ts) rest)
+  edge_part f l ts rest inner more = handed_part act.BeginSuccessor act.EndSuccessor f l ts rest (λ p. (refl, refl, refl, refl)) (λ p. (refl, refl, refl, refl)) refl inner more
 
   region_part : (f l : ℕ) (ts rest : Trees ActionSpan) → RegionGoal ts → OperationGoal rest → OperationGoal (a_tree (node (step_of act.BeginRegion f l) ts) rest)
   region_part f l ts rest inner more at es low read true iso =
@@ -309,15 +324,15 @@ module _ (isolated : ℕ → Bool) (values : Values) (text : ℕ → List ℕ) {
       let bs = blocks_in values text ts in
       let rs = regions_in values text rest in
       let us = operands_in rest in
-      let P : Type 0 = AreScoped isolated false (all_renamed g bs) in
+      let P : Type 0 = AreScoped isolated false (all_renamed g g bs) in
       let In' : Type 0 = AreIn (map g (all_mentioned isolated bs)) (map g (all_defined isolated bs)) in
-      let R : Type 0 = AreIn (all_mentioned isolated (all_renamed g bs)) (all_defined isolated (all_renamed g bs)) in
-      let Q : Type 0 = AreScoped isolated true (all_renamed g rs) in
+      let R : Type 0 = AreIn (all_mentioned isolated (all_renamed g g bs)) (all_defined isolated (all_renamed g g bs)) in
+      let Q : Type 0 = AreScoped isolated true (all_renamed g g rs) in
       part_change isolated g at es (all_definitions_of bs ++ all_definitions_of rs) [] (us ++ []) (all_operands_of bs ++ (us ++ all_operands_of rs))
       (all_definitions_of bs ++ all_definitions_of rs) [] (us ++ []) (us ++ (all_operands_of bs ++ all_operands_of rs)) ((In' × P) × Q) ((R × P) × Q)
       refl (alike []) (alike (us ++ [])) (λ k. swap_in k us (all_operands_of bs) (all_operands_of rs))
-      (λ z. ((subst (λ xs. AreIn xs (all_defined isolated (all_renamed g bs))) (sym (all_mentioned_renamed g isolated bs)) (subst (λ ys. AreIn (map g (all_mentioned isolated bs)) ys) (sym (all_defined_renamed g isolated bs)) z.0.0), z.0.1), z.1))
-      (λ z. ((subst (λ xs. AreIn xs (map g (all_defined isolated bs))) (all_mentioned_renamed g isolated bs) (subst (λ ys. AreIn (all_mentioned isolated (all_renamed g bs)) ys) (all_defined_renamed g isolated bs) z.0.0), z.0.1), z.1))
+      (λ z. ((subst (λ xs. AreIn xs (all_defined isolated (all_renamed g g bs))) (sym (all_mentioned_renamed g g isolated bs)) (subst (λ ys. AreIn (map g (all_mentioned isolated bs)) ys) (sym (all_defined_renamed g g isolated bs)) z.0.0), z.0.1), z.1))
+      (λ z. ((subst (λ xs. AreIn xs (map g (all_defined isolated bs))) (all_mentioned_renamed g g isolated bs) (subst (λ ys. AreIn (all_mentioned isolated (all_renamed g g bs)) ys) (all_defined_renamed g g isolated bs) z.0.0), z.0.1), z.1))
       (both at es t rest low read (all_definitions_of bs) [] [] (all_operands_of bs) (all_definitions_of rs) [] (us ++ []) (us ++ all_operands_of rs) (In' × P) Q
       (λ e reads. part_scope isolated g (all_definitions_of bs) (all_defined isolated bs) (all_mentioned isolated bs) (all_operands_of bs) P at e act.BeginRegion act.EndRegion f l (deeds_in ts) low reads
       (λ p. (refl, refl, refl, refl)) (λ p. (refl, refl, refl, refl)) (λ p i lower around r. inner p i lower (at.here, at.around, around) r) iso)
@@ -327,8 +342,8 @@ module _ (isolated : ℕ → Bool) (values : Values) (text : ℕ → List ℕ) {
       let bs = blocks_in values text ts in
       let rs = regions_in values text rest in
       let us = operands_in rest in
-      let P : Type 0 = AreScoped isolated false (all_renamed g bs) in
-      let Q : Type 0 = AreScoped isolated false (all_renamed g rs) in
+      let P : Type 0 = AreScoped isolated false (all_renamed g g bs) in
+      let Q : Type 0 = AreScoped isolated false (all_renamed g g rs) in
       part_change isolated g at es (all_definitions_of bs ++ all_definitions_of rs) (all_defined isolated bs ++ all_defined isolated rs) (all_mentioned isolated bs ++ (us ++ all_mentioned isolated rs)) (all_operands_of bs ++ (us ++ all_operands_of rs))
       (all_definitions_of bs ++ all_definitions_of rs) (all_defined isolated bs ++ all_defined isolated rs) (us ++ (all_mentioned isolated bs ++ all_mentioned isolated rs)) (us ++ (all_operands_of bs ++ all_operands_of rs)) (P × Q) ((Unit {0} × P) × Q)
       refl (alike (all_defined isolated bs ++ all_defined isolated rs)) (swap (all_mentioned isolated bs) us (all_mentioned isolated rs)) (λ k. swap_in k us (all_operands_of bs) (all_operands_of rs))
@@ -346,8 +361,8 @@ module _ (isolated : ℕ → Bool) (values : Values) (text : ℕ → List ℕ) {
       let ns = names_of (arguments_in values text 0 ts) in
       let os = operations_in values text [] ts in
       let bs = blocks_in values text rest in
-      let P : Type 0 = AreScoped isolated false (all_renamed g os) in
-      let Q : Type 0 = AreScoped isolated false (all_renamed g bs) in
+      let P : Type 0 = AreScoped isolated false (all_renamed g g os) in
+      let Q : Type 0 = AreScoped isolated false (all_renamed g g bs) in
       let all = (ns ++ all_definitions_of os) ++ all_definitions_of bs in
       let own = (ns ++ all_defined isolated os) ++ all_defined isolated bs in
       let used = all_mentioned isolated os ++ all_mentioned isolated bs in
@@ -365,7 +380,7 @@ module _ (isolated : ℕ → Bool) (values : Values) (text : ℕ → List ℕ) {
       let t : LabelledTree ActionSpan = node (step_of act.Argument f l) ts in
       let ns = names_of (arguments_in values text f rest) in
       let os = operations_in values text [] rest in
-      let Q : Type 0 = AreScoped isolated false (all_renamed g os) in
+      let Q : Type 0 = AreScoped isolated false (all_renamed g g os) in
       let c = cut at es t rest low read in
       let first = part_defines isolated g at c.0 act.Argument f (λ p. (refl, refl, refl, refl)) (leaf at c.0 act.Argument f l ts refl w c.3) in
       let r = more f (arrived isolated at c.0) c.1 (low_behind at es t rest low read c.0 first.here) (inside_behind at es t rest low read c.0 first.around inside) c.4 in
@@ -378,7 +393,7 @@ module _ (isolated : ℕ → Bool) (values : Values) (text : ℕ → List ℕ) {
   header_part f l ts rest w more named at es low inside read =
       let t : LabelledTree ActionSpan = node (step_of act.Header f l) ts in
       let os = operations_in values text [] rest in
-      let Q : Type 0 = AreScoped isolated false (all_renamed g os) in
+      let Q : Type 0 = AreScoped isolated false (all_renamed g g os) in
       let c = cut at es t rest low read in
       let first = quiet_leaf at c.0 act.Header f l ts (λ p. (refl, refl, refl, refl)) refl w c.3 in
       let r = more (arrived isolated at c.0) c.1 (low_behind at es t rest low read c.0 first.here) (inside_behind at es t rest low read c.0 first.around inside) c.4 in
@@ -394,7 +409,7 @@ module _ (isolated : ℕ → Bool) (values : Values) (text : ℕ → List ℕ) {
       let os = operations_in values text [] rest in (
         ns ++ all_definitions_of os,
         ns ++ all_defined isolated os,
-        beside_quiet at es t rest low read (ns ++ all_definitions_of os) (ns ++ all_defined isolated os) (all_mentioned isolated os) (all_operands_of os) (AreScoped isolated false (all_renamed g os))
+        beside_quiet at es t rest low read (ns ++ all_definitions_of os) (ns ++ all_defined isolated os) (all_mentioned isolated os) (all_operands_of os) (AreScoped isolated false (all_renamed g g os))
             (λ e. quiet_node at e (act.BeginType kind) act.EndType f l ts (λ p. (refl, refl, refl, refl)) (λ p. (refl, refl, refl, refl)) refl low inner)
             (λ e c here around r. more named (arrived isolated at e) c (low_behind at es t rest low read e here) (inside_behind at es t rest low read e around inside) r),
         refl,
@@ -405,7 +420,7 @@ module _ (isolated : ℕ → Bool) (values : Values) (text : ℕ → List ℕ) {
   result_part names f l ts rest w more at es low inside read =
       let t : LabelledTree ActionSpan = node (step_of act.Result f l) ts in
       let os = operations_in values text (names ++ f ∷ []) rest in
-      let Q : Type 0 = AreScoped isolated false (all_renamed g os) in
+      let Q : Type 0 = AreScoped isolated false (all_renamed g g os) in
       let c = cut at es t rest low read in
       let first = part_defines isolated g at c.0 act.Result f (λ p. (refl, refl, refl, refl)) (leaf at c.0 act.Result f l ts refl w c.3) in
       let r = more (arrived isolated at c.0) c.1 (low_behind at es t rest low read c.0 first.here) (inside_behind at es t rest low read c.0 first.around inside) c.4 in (
@@ -431,8 +446,8 @@ module _ (isolated : ℕ → Bool) (values : Values) (text : ℕ → List ℕ) {
       let rs = regions_in values text ts in
       let us = operands_in ts in
       let os = operations_in values text [] rest in
-      let P : Type 0 = AreScoped isolated b (all_renamed g rs) in
-      let Q : Type 0 = AreScoped isolated false (all_renamed g os) in
+      let P : Type 0 = AreScoped isolated b (all_renamed g g rs) in
+      let Q : Type 0 = AreScoped isolated false (all_renamed g g os) in
       let c = cut at es t rest low read in
       let first = part_operation isolated g (all_definitions_of rs) (inner_defined b rs) (us ++ inner_mentioned b rs) (us ++ all_operands_of rs) P at c.0 (act.Operation kind) act.EndOperation f l (deeds_in ts) low c.3 kind
       (λ p. (refl, refl, refl, refl)) (λ p. (refl, refl, refl, refl))
@@ -459,7 +474,7 @@ module _ (isolated : ℕ → Bool) (values : Values) (text : ℕ → List ℕ) {
   root_result names f l ts rest w more at es low read =
       let t : LabelledTree ActionSpan = node (step_of act.Result f l) ts in
       let os = operations_in values text (names ++ f ∷ []) rest in
-      let Q : Type 0 = AreScoped isolated false (all_renamed g os) in
+      let Q : Type 0 = AreScoped isolated false (all_renamed g g os) in
       let c = cut at es t rest low read in
       let first = part_defines isolated g at c.0 act.Result f (λ p. (refl, refl, refl, refl)) (leaf at c.0 act.Result f l ts refl w c.3) in
       let r = more (arrived isolated at c.0) c.1 (low_behind at es t rest low read c.0 first.here) c.4 in (
@@ -479,7 +494,7 @@ module _ (isolated : ℕ → Bool) (values : Values) (text : ℕ → List ℕ) {
       let b = isolated kind in
       let rs = regions_in values text ts in
       let us = operands_in ts in
-      let P : Type 0 = AreScoped isolated b (all_renamed g rs) in
+      let P : Type 0 = AreScoped isolated b (all_renamed g g rs) in
       let all = all_definitions_of rs in
       let own = inner_defined b rs in
       let used = us ++ inner_mentioned b rs in
@@ -528,6 +543,7 @@ module _ (isolated : ℕ → Bool) (values : Values) (text : ℕ → List ℕ) {
 
   operation_steps : (a : Action) → Steps in_operation a
   operation_steps act.BeginOperands names f l ts rest pl w c inner more = operands_part f l ts rest (inner in_operands [] pl.0 c.1 tt) (more in_operation [] pl.1 c.2 tt)
+  operation_steps act.BeginSuccessor names f l ts rest pl w c inner more = edge_part f l ts rest (inner in_successor [] pl.0 c.1 tt) (more in_operation [] pl.1 c.2 tt)
   operation_steps act.BeginRegion names f l ts rest pl w c inner more = region_part f l ts rest (inner in_region [] pl.0 c.1 tt) (more in_operation [] pl.1 c.2 tt)
   operation_steps act.EndOperation names f l ts rest pl w c inner more = absurd pl
   operation_steps a names f l ts rest pl w c inner more =
@@ -573,6 +589,10 @@ module _ (isolated : ℕ → Bool) (values : Values) (text : ℕ → List ℕ) {
   operand_steps act.Operand names f l ts rest pl w c inner more = operand_part f l ts rest w (more in_operands [] pl c.2 tt)
   operand_steps _ names f l ts rest pl w c inner more = absurd pl
 
+  edge_steps : (a : Action) → Steps in_successor a
+  edge_steps act.Operand names f l ts rest pl w c inner more = operand_part f l ts rest w (more in_successor [] pl c.2 tt)
+  edge_steps _ names f l ts rest pl w c inner more = absurd pl
+
   region_steps : (a : Action) → Steps in_region a
   region_steps act.Label names f l ts rest pl w c inner more = label_part f l ts rest (inner in_header [] pl.0 c.1 tt) (more in_region [] pl.1 c.2 tt)
   region_steps _ names f l ts rest pl w c inner more = absurd pl
@@ -617,6 +637,7 @@ module _ (isolated : ℕ → Bool) (values : Values) (text : ℕ → List ℕ) {
   steps at_end a = λ names f l ts rest pl w c inner more. absurd pl
   steps in_operation a = operation_steps a
   steps in_operands a = operand_steps a
+  steps in_successor a = edge_steps a
   steps in_region a = region_steps a
   steps in_header a = header_steps a
   steps in_argument a = argument_steps a
@@ -634,9 +655,9 @@ module _ (isolated : ℕ → Bool) (values : Values) (text : ℕ → List ℕ) {
   -- of a whole text: what its names are, by its tree
   pub root_known : (ts : Trees ActionSpan) → AreWhole ts → Placed at_root ts → Counts values text [] ts → (at : EventPlace) (es : List Event) → at.here.values ≤ at.events → deeds_from at.tokens es ≡ deeds_in ts
       → Has isolated g at es (all_definitions_of (operations_in values text [] ts)) (all_defined isolated (operations_in values text [] ts)) (all_mentioned isolated (operations_in values text [] ts))
-      (all_operands_of (operations_in values text [] ts)) (AreScoped isolated false (all_renamed g (operations_in values text [] ts)))
+      (all_operands_of (operations_in values text [] ts)) (AreScoped isolated false (all_renamed g g (operations_in values text [] ts)))
   root_known ts w pl c at es low read =
       let r = walk ts w at_root [] pl c tt at es low read in
       let os = operations_in values text [] ts in
       change isolated g at es r.0 r.1 (all_mentioned isolated os) (all_operands_of os) (all_definitions_of os) (all_defined isolated os) (all_mentioned isolated os) (all_operands_of os)
-      (AreScoped isolated false (all_renamed g os)) (AreScoped isolated false (all_renamed g os)) r.3 (alike_is r.1 (all_defined isolated os) r.4) (alike (all_mentioned isolated os)) (λ k h. h) (λ q. q) (λ q. q) r.2
+      (AreScoped isolated false (all_renamed g g os)) (AreScoped isolated false (all_renamed g g os)) r.3 (alike_is r.1 (all_defined isolated os) r.4) (alike (all_mentioned isolated os)) (λ k h. h) (λ q. q) (λ q. q) r.2

@@ -1,7 +1,7 @@
--- In the rules of formats each action that keeps a name or names a value comes straight behind the sign of names.
+-- In the rules of formats each action that keeps a name or names a value or a block comes straight behind the sign of names.
 use Rattle.std.proofs.Common.{◌≡◌, ℕ, zero, suc, ◌==◌, List, [], ◌∷◌, ◌++◌, Some, Bool, true, false, slice_get, refl, subst}
 use Rattle.std.specs.Bool.{MatchBool}
-use Rattle.ir_print.specs.Formats.{Formats, Kind, Step, Steps, word, operands, operand, an_attribute, a_type, a_region, symbol_name, a_name, a_number, a_width, list_of, no_steps, step}
+use Rattle.ir_print.specs.Formats.{Formats, Kind, Step, Steps, word, operands, operand, successor, an_attribute, a_type, a_region, symbol_name, a_name, a_number, a_width, list_of, no_steps, step}
 use Rattle.ir_grammar.specs.declared.grammar.Action.{Action}
 use Rattle.ir_grammar.specs.declared.grammar.Action.TheVariants as act
 use Rattle.ir_grammar.specs.declared.grammar.Symbol.{Symbol}
@@ -13,13 +13,14 @@ use Rattle.ir_formats.specs.Rules.{PlainRule, MadeOfSteps, up, sign, number_of, 
 
 -- ---- the test
 
--- the action keeps a name, or names a value
+-- the action keeps a name, or names a value or a block
 abbrev pub keeps_name : Action → Bool
 keeps_name act.Name = true
 keeps_name act.Label = true
 keeps_name act.Result = true
 keeps_name act.Argument = true
 keeps_name act.Operand = true
+keeps_name act.BeginSuccessor = true
 keeps_name _ = false
 
 -- Each such action comes straight behind the sign of names. At first that sign may stand before.
@@ -76,6 +77,7 @@ module _ (ws : List (List ℕ)) where
     step_behind (word printed w) n = (tt, tt)
     step_behind operands n = (tt, (tt, ((refl, tt), (tt, ((refl, tt), tt)))))
     step_behind operand n = ((refl, tt), tt)
+    step_behind successor n = ((refl, tt), (tt, ((refl, tt), (tt, ((refl, tt), tt)))))
     step_behind an_attribute n = (tt, tt)
     step_behind a_type n = (tt, tt)
     step_behind a_region n = (tt, tt)

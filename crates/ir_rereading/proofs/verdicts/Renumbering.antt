@@ -73,7 +73,7 @@ module _ (names : ℕ → Bool) where
 
 -- ---- the tokens of names
 
--- Each action that keeps a name or names a value comes behind a token of which this holds; n tokens have been taken before.
+-- Each action that keeps a name or names a value or a block comes behind a token of which this holds; n tokens have been taken before.
 abbrev pub AllAt : (ℕ → Type 0) → ℕ → List Event → Type 0
 AllAt P n [] = Unit {0}
 AllAt P n (Took ∷ es) = AllAt P (n + 1) es
@@ -203,8 +203,9 @@ pub mentioned_own : IsOwn mentioned
 mentioned_own at act.Operand i s h = (refl, ap (λ x. x.token) (sym (one_site _ s i h)))
 mentioned_own at _ i s h = no_site s h
 
-label_mentioned_own : IsOwn label_mentioned
-label_mentioned_own at a i s h = no_site s h
+pub label_mentioned_own : IsOwn label_mentioned
+label_mentioned_own at act.BeginSuccessor i s h = (refl, ap (λ x. x.token) (sym (one_site _ s i h)))
+label_mentioned_own at _ i s h = no_site s h
 
 module _ (isolated : ℕ → Bool) (P : ℕ → Type 0) (f : EventPlace → Event → List Site) (took : (at : EventPlace) → f at Took ≡ []) (own : IsOwn f) where
   pub sites_at : (at : EventPlace) (es : List Event) → AllAt P at.tokens es → (i : ℕ) (s : Site) → slice_get (each isolated f at es) i ≡ Some s → P s.token
