@@ -2,8 +2,10 @@ pub mod Lists
 pub mod Held
 pub mod SettledDefinitions
 pub mod Settling
+pub mod Labelled
 pub mod Stepping
 pub mod RaisingBegins
+pub mod Outside
 pub mod RaisingLeaves
 pub mod RaisingBlocks
 pub mod RaisingValues

@@ -21,15 +21,18 @@ use Rattle.text_frames.specs.declared.opened.OpenOperation.{OpenOperation}
 use Rattle.ir_forest.specs.Forest.{ActionSpan}
 use Rattle.ir_forest.specs.Building as building
 use Rattle.ir_forest.specs.Building.{Built, with_begin, names_behind}
-use Rattle.ir_grammar.specs.Nesting.{Position, at_root, behind_root_results, at_end, in_operation, in_operands, in_region, in_header, in_argument, in_block, behind_results, in_type, in_attribute, in_list, in_item, move}
+use Rattle.ir_grammar.specs.Nesting.{Position, at_root, behind_root_results, at_end, in_operation, in_operands, in_successor, in_region, in_header, in_argument, in_block, behind_results, in_type, in_attribute, in_list, in_item, move}
 use Rattle.text_frames.specs.Opened.{IsFreshFrame}
 use Rattle.ir_formats.specs.Ordered.{Standing, moved_by}
-use Rattle.text_assembling.specs.Assembling.{Begun, HasMade, Stage, world_of}
-use Rattle.text_frames.specs.Raised.{result_names, IsAroundRoot, RaisesRoot, RaisesBlock, Raises, IsRaised, RaisesAll, begun_at, named_tokens, blocks_of_body}
-use Rattle.text_frames.specs.Worlds.{PartialModule}
+use Rattle.text_assembling.specs.Assembling.{Begun, HasMade, Stage, unmade_label, world_of}
+use Rattle.text_frames.specs.Raised.{result_names, IsAroundRoot, RaisesRoot, RaisesBlock, Raises, IsRaised, RaisesAll, begun_at, named_tokens, blocks_of_body, names_after}
+use Rattle.text_frames.specs.Worlds.{NameTokens, LaterNames, LaterWorld, PartialModule}
+use Rattle.text_frames.proofs.LaterWorlds.{get_right, names_later, later_same, all_keep_same, all_later}
+use Rattle.ir_scopes.specs.Naming.{defined_by, labelled_by}
 use Rattle.text_assembling.proofs.Held.{held_list}
+use Rattle.text_assembling.proofs.Labelled.{unmade_begun, labelled_begun}
 use Rattle.text_assembling.proofs.SettledDefinitions.{numbers_begun, blocks_begun, settled_same}
-use Rattle.text_assembling.proofs.Settling.{stack_same, still_unrooted}
+use Rattle.text_assembling.proofs.Settling.{stack_same, still_unrooted, waiting_longer}
 
 -- where something begins, what is around it stands there, or behind names of results, of which there may be none
 abbrev pub Becomes : Position → Position → Type 0
@@ -50,6 +53,7 @@ root_becomes says values text w root behind_root_results to ts e h = subst (λ (
 root_becomes says values text w root at_end to ts e h = subst (λ (p : Position). AtRoot says values text w root p ts) (sym e) h
 root_becomes says values text w root in_operation to ts e h = absurd h.1
 root_becomes says values text w root in_operands to ts e h = absurd h.1
+root_becomes says values text w root in_successor to ts e h = absurd h.1
 root_becomes says values text w root in_region to ts e h = absurd h.1
 root_becomes says values text w root in_header to ts e h = absurd h.1
 root_becomes says values text w root in_argument to ts e h = absurd h.1
@@ -88,6 +92,7 @@ module _ {D K A T : Type 0} (says : Saying K A T) (values : Values) (text : ℕ 
   raises_behind_root body.Item f ts h = tt
   raises_behind_root (body.Operation o) f ts h = h
   raises_behind_root (body.Operands ks) f ts h = h
+  raises_behind_root (body.Successor ks) f ts h = h
   raises_behind_root (body.Region bs) f ts h = h
   raises_behind_root (body.Block b) f ts h = of_block b.block h where
     of_block : (b : Option _) → RaisesBlock says values text w b f at_root ts → RaisesBlock says values text w b f behind_root_results ts
@@ -102,6 +107,7 @@ module _ {D K A T : Type 0} (says : Saying K A T) (values : Values) (text : ℕ 
   raises_among body.Item f ts h = tt
   raises_among (body.Operation o) f ts h = h
   raises_among (body.Operands ks) f ts h = h
+  raises_among (body.Successor ks) f ts h = h
   raises_among (body.Region bs) f ts h = h
   raises_among (body.Block b) f ts h = of_block b.block h where
     of_block : (b : Option _) → RaisesBlock says values text w b f in_block ts → RaisesBlock says values text w b f behind_results ts
@@ -115,6 +121,7 @@ module _ {D K A T : Type 0} (says : Saying K A T) (values : Values) (text : ℕ 
   raised_becomes f at_end to ts e h = subst (λ (p : Position). IsRaised says values text w f p ts) (sym e) h
   raised_becomes f in_operation to ts e h = subst (λ (p : Position). IsRaised says values text w f p ts) (sym e) h
   raised_becomes f in_operands to ts e h = subst (λ (p : Position). IsRaised says values text w f p ts) (sym e) h
+  raised_becomes f in_successor to ts e h = subst (λ (p : Position). IsRaised says values text w f p ts) (sym e) h
   raised_becomes f in_region to ts e h = subst (λ (p : Position). IsRaised says values text w f p ts) (sym e) h
   raised_becomes f in_header to ts e h = subst (λ (p : Position). IsRaised says values text w f p ts) (sym e) h
   raised_becomes f in_argument to ts e h = subst (λ (p : Position). IsRaised says values text w f p ts) (sym e) h
@@ -177,70 +184,99 @@ module _ (around : List Position) (next : Standing) where
   item_enters in_list h = (in_list, cc, refl)
   item_enters _ h = cc
 
+  pub edge_enters : (p : Position) → moved_by (move p act.BeginSuccessor) around ≡ Some next → Enters in_successor p around next
+  edge_enters in_operation h = (in_operation, cc, refl)
+  edge_enters _ h = cc
+
   pub operands_enter : (p : Position) → moved_by (move p act.BeginOperands) around ≡ Some next → Enters in_operands p around next
   operands_enter in_operation h = (in_operation, cc, refl)
   operands_enter _ h = cc
 
-module _ {D K A T : Type 0} (says : Saying K A T) (values : Values) (text : ℕ → List ℕ) (start : Seen K A T) (counter : ℕ) (s : Stage K A T) (a c : Assembler D K A T) (b : Built) (here next : Standing) (k : ℕ) (tokens mentions : List ℕ)
-    (has : HasMade says values text start counter s a b here tokens mentions) (made : c.made ≡ a.made) (none_yet : a.made.root ≡ None) where
-  same_world : world_of s a tokens mentions ≡ world_of s c tokens mentions
-  same_world = ap (λ (x : Assembly). record { ctx = s.ctx; values = x.values.items; tokens = tokens; mentions = mentions; pending = x.pending.items }) (sym made)
+module _ {D K A T : Type 0} (says : Saying K A T) (values : Values) (text : ℕ → List ℕ) (start : Seen K A T) (counter : ℕ) (s : Stage K A T) (a c : Assembler D K A T) (b : Built) (here next : Standing) (k : ℕ) (names : NameTokens)
+    (has : HasMade says values text start counter s a b here names) (made : c.made ≡ a.made) (none_yet : a.made.root ≡ None) where
+  -- it may bring a name
+  named_world : (more : NameTokens) → LaterNames names more → LaterWorld (world_of s a names) (world_of s c more)
+  named_world more later = subst (λ (x : Assembly). LaterWorld (world_of s a names) (record { ctx = s.ctx; values = x.values.items; blocks = x.blocks.items; names = more; pending = x.pending.items })) (sym made) (record {
+    ctx = later_same s.ctx;
+    values = λ n x h. h;
+    blocks = λ n x h. h;
+    names = later;
+    pending = λ i x h. h;
+  })
 
   -- what begins has nothing in it
   pub begins_made : (x : Action) (y : Body D K A T) (inner : Position) → Enters inner here.here here.around next → IsFreshFrame c.here y k → c.around.items ≡ a.around.items ++ a.here ∷ [] → blocks_of_body y ≡ [] → named_tokens inner no_tree ≡ []
-      → Raises says values text (world_of s c tokens mentions) y c.here inner no_tree → HasMade says values text start counter s c (with_begin b x k) next (tokens ++ []) (mentions ++ [])
-  begins_made x y inner (outer, leads, becomes) fresh around none unnamed made_so =
+      → defined_by x k ≡ [] → unmade_label y k ≡ labelled_by x k
+      → Raises says values text (world_of s c (names_after names x k)) y c.here inner no_tree → HasMade says values text start counter s c (with_begin b x k) next (names_after names x k)
+  begins_made x y inner (outer, leads, becomes) fresh around none unnamed defines labels made_so =
       let o : building.Open = record { action = x; first = k; before = b.here } in
-      let w : PartialModule K A T = world_of s c tokens mentions in
+      let all_names : NameTokens = names_after names x k in
+      let later : LaterNames names all_names = names_later names x k in
+      let w : PartialModule K A T = world_of s c all_names in
       let top : reverse c.around.items ≡ a.here ∷ reverse a.around.items = ap reverse around ∙ reverse-append a.around.items (a.here ∷ []) in
       let new : IsRaised says values text w c.here inner no_tree = record {
         made = subst (λ (z : Body D K A T). Raises says values text w z c.here inner no_tree) (sym fresh.body) made_so;
         numbered = rw (fresh.numbers, unnamed) tt;
       } in
       let old : RaisesAll says values text w c.made.root a.here here.here b.here (reverse a.around.items) b.around here.around =
-      subst (λ (r : Option (Ptr Operation)). RaisesAll says values text w r a.here here.here b.here (reverse a.around.items) b.around here.around) (sym (ap (λ (z : Assembly). z.root) made))
-      (subst (λ (v : PartialModule K A T). RaisesAll says values text v a.made.root a.here here.here b.here (reverse a.around.items) b.around here.around) same_world has.frames) in
+      all_later says values text (world_of s a names) w (named_world all_names later) a.made.root c.made.root a.here here.here b.here (reverse a.around.items) b.around here.around
+      (λ e. ap (λ (z : Assembly). z.root) made) (all_keep_same s.ctx (a.here ∷ reverse a.around.items)) has.frames in
       let all : RaisesAll says values text w c.made.root c.here inner no_tree (a.here ∷ reverse a.around.items) (o ∷ b.around) (outer ∷ here.around) =
       (new, raises_becomes says values text w c.made.root a.here here.here (begun_at outer) b.here (reverse a.around.items) b.around here.around becomes old) in
-      rw (append-nil tokens, append-nil mentions) (record {
+      record {
         frames = subst (λ (n : Standing). RaisesAll says values text w c.made.root c.here n.here no_tree (reverse c.around.items) (o ∷ b.around) n.around) leads
             (subst (λ (gs : List (Open D K A T)). RaisesAll says values text w c.made.root c.here inner no_tree gs (o ∷ b.around) (outer ∷ here.around)) (sym top) all);
         held = held_list start s.ctx a.made.loose.items c.made.loose.items (ap (λ (z : Assembly). z.loose.items) made) has.held;
         stack = stack_same a c (blocks_begun a c around (ap blocks_of_body fresh.body ∙ none)) (ap (λ (z : Assembly). z.loose.items) made) (ap (λ (z : Assembly). z.root) made) has.stack;
         unrooted = still_unrooted next.here c.made.root (ap (λ (z : Assembly). z.root) made ∙ none_yet);
-        definitions = settled_same s s a c tokens counter (numbers_begun a c around fresh.numbers) (ap (λ (z : Assembly). z.values.items) made) (λ d h. h) refl has.definitions;
-        operands = rw made has.operands;
-      })
+        definitions = rw (defines, append-nil names.definitions) (settled_same s s a c names.definitions counter (numbers_begun a c around fresh.numbers) (ap (λ (z : Assembly). z.values.items) made) (λ d h. h) refl has.definitions);
+        blocks = labelled_begun s a c names.labels (labelled_by x k) (unmade_begun a c (labelled_by x k) around (rw (fresh.body, fresh.first) labels)) (ap (λ (z : Assembly). z.blocks) made) has.blocks;
+        operands = rw made (waiting_longer start s.ctx a.made.pending.items names all_names later has.operands);
+      }
 
 -- ---- each of what begins
 
-module _ {D K A T : Type 0} (says : Saying K A T) (values : Values) (text : ℕ → List ℕ) (start : Seen K A T) (counter : ℕ) (s : Stage K A T) (a c : Assembler D K A T) (b : Built) (here next : Standing) (tokens mentions : List ℕ)
-    (has : HasMade says values text start counter s a b here tokens mentions) (made : c.made ≡ a.made) (none_yet : a.made.root ≡ None) where
+module _ {D K A T : Type 0} (says : Saying K A T) (values : Values) (text : ℕ → List ℕ) (start : Seen K A T) (counter : ℕ) (s : Stage K A T) (a c : Assembler D K A T) (b : Built) (here next : Standing) (names : NameTokens)
+    (has : HasMade says values text start counter s a b here names) (made : c.made ≡ a.made) (none_yet : a.made.root ≡ None) where
   -- a type, an attribute or a member
   pub value_begins : (x : Action) (y : Body D K A T) (inner : Position) → Enters inner here.here here.around next → Begun a c y → blocks_of_body y ≡ [] → named_tokens inner no_tree ≡ []
-      → Raises says values text (world_of s c tokens mentions) y c.here inner no_tree → HasMade says values text start counter s c (with_begin b x (a.taken - 1)) next (tokens ++ []) (mentions ++ [])
-  value_begins x y inner enters begun none unnamed made_so =
-      begins_made says values text start counter s a c b here next (a.taken - 1) tokens mentions has made none_yet x y inner enters begun.here begun.around none unnamed made_so
+      → defined_by x (a.taken - 1) ≡ [] → unmade_label y (a.taken - 1) ≡ labelled_by x (a.taken - 1)
+      → Raises says values text (world_of s c (names_after names x (a.taken - 1))) y c.here inner no_tree
+      → HasMade says values text start counter s c (with_begin b x (a.taken - 1)) next (names_after names x (a.taken - 1))
+  value_begins x y inner enters begun none unnamed defines labels made_so =
+      begins_made says values text start counter s a c b here next (a.taken - 1) names has made none_yet x y inner enters begun.here begun.around none unnamed defines labels made_so
 
-  pub operation_begins : (n : ℕ) (o : OpenOperation) → moved_by (move here.here (act.Operation n)) here.around ≡ Some next → Begun a c (body.Operation o) → o.operands.items ≡ [] → o.regions.items ≡ []
-      → HasMade says values text start counter s c (with_begin b (act.Operation n) (a.taken - 1)) next (tokens ++ []) (mentions ++ [])
-  operation_begins n o moved begun operands regions =
-      value_begins (act.Operation n) (body.Operation o) in_operation (operation_enters here.around next here.here n moved) begun (rw regions refl) refl (operands, rw operands (λ i k h. cc), rw regions tt)
+  pub operation_begins : (n : ℕ) (o : OpenOperation) → moved_by (move here.here (act.Operation n)) here.around ≡ Some next → Begun a c (body.Operation o) → o.operands.items ≡ [] → o.labels.items ≡ [] → o.regions.items ≡ []
+      → HasMade says values text start counter s c (with_begin b (act.Operation n) (a.taken - 1)) next (names_after names (act.Operation n) (a.taken - 1))
+  operation_begins n o moved begun operands labels regions =
+      value_begins (act.Operation n) (body.Operation o) in_operation (operation_enters here.around next here.here n moved) begun (rw regions refl) refl refl refl (record {
+        operands = operands;
+        mentioned = rw operands (λ i k h. cc);
+        labels = labels;
+        labels_mentioned = rw labels (λ i k h. cc);
+        regions = rw regions tt;
+      })
 
   pub region_begins : (bs : Vec (Ptr BasicBlock) Global) → moved_by (move here.here act.BeginRegion) here.around ≡ Some next → Begun a c (body.Region bs) → bs.items ≡ []
-      → HasMade says values text start counter s c (with_begin b act.BeginRegion (a.taken - 1)) next (tokens ++ []) (mentions ++ [])
+      → HasMade says values text start counter s c (with_begin b act.BeginRegion (a.taken - 1)) next (names_after names act.BeginRegion (a.taken - 1))
   region_begins bs moved begun none =
-      value_begins act.BeginRegion (body.Region bs) in_region (region_enters here.around next here.here moved) begun (rw none refl) refl (rw none tt)
+      value_begins act.BeginRegion (body.Region bs) in_region (region_enters here.around next here.here moved) begun (rw none refl) refl refl refl (rw none tt)
 
   pub operands_begin : (ks : Vec ℕ Global) → moved_by (move here.here act.BeginOperands) here.around ≡ Some next → Begun a c (body.Operands ks) → ks.items ≡ []
-      → HasMade says values text start counter s c (with_begin b act.BeginOperands (a.taken - 1)) next (tokens ++ []) (mentions ++ [])
+      → HasMade says values text start counter s c (with_begin b act.BeginOperands (a.taken - 1)) next (names_after names act.BeginOperands (a.taken - 1))
   operands_begin ks moved begun none =
-      value_begins act.BeginOperands (body.Operands ks) in_operands (operands_enter here.around next here.here moved) begun refl refl (rw none (λ i k h. cc))
+      value_begins act.BeginOperands (body.Operands ks) in_operands (operands_enter here.around next here.here moved) begun refl refl refl refl (rw none (λ i k h. cc))
+
+  pub edge_begins : (ks : Vec ℕ Global) → moved_by (move here.here act.BeginSuccessor) here.around ≡ Some next → Begun a c (body.Successor ks) → ks.items ≡ []
+      → HasMade says values text start counter s c (with_begin b act.BeginSuccessor (a.taken - 1)) next (names_after names act.BeginSuccessor (a.taken - 1))
+  edge_begins ks moved begun none =
+      value_begins act.BeginSuccessor (body.Successor ks) in_successor (edge_enters here.around next here.here moved) begun refl refl refl refl
+      (rw none (λ i k h. cc), rw begun.here.first (λ i k h. get_right names.edges ((a.taken - 1) ∷ []) i k h))
 
   pub block_begins : moved_by (move here.here act.Label) here.around ≡ Some next → Begun a c (body.Block (record { block = None })) → is_identifier (text (a.taken - 1)) ≡ true
-      → HasMade says values text start counter s c (with_begin b act.Label (a.taken - 1)) next (tokens ++ []) (mentions ++ [])
+      → HasMade says values text start counter s c (with_begin b act.Label (a.taken - 1)) next (names_after names act.Label (a.taken - 1))
   block_begins moved begun spelt =
-      value_begins act.Label (body.Block (record { block = None })) in_header (block_enters here.around next here.here moved) begun refl refl (record {
+      value_begins act.Label (body.Block (record { block = None })) in_header (block_enters here.around next here.here moved) begun refl refl refl refl (record {
         open_still = refl;
         spelt = rw begun.here.first spelt;
         unnamed = refl;

@@ -1,5 +1,6 @@
 -- What an operation stands for that is made where it ends.
-use Rattle.std.proofs.Common.{◌≡◌, ◌≢◌, ◌∙◌, ◌⊎◌, inl, inr, ℕ, ◌+◌, ◌≤◌, ◌==◌, if◌then◌else◌, Bool, true, false, List, [], ◌∷◌, ◌++◌, map, length, reverse, Option, Some, None, IsSome, Result, Ok, Err, OnOk, slice_get, option_map, unwrap_or, refl, sym, ap, subst, arith, eqb-true, append-nil, length-append, ◌^◌}
+use Rattle.std.proofs.Common.{◌≡◌, ◌≢◌, ◌∙◌, ◌⊎◌, inl, inr, ℕ, ◌+◌, ◌≤◌, ◌==◌, if◌then◌else◌, Bool, true, false, List, [], ◌∷◌, ◌++◌, map, length, reverse, Option, Some, None, IsSome, Result, Ok, Err, OnOk, slice_get, option_map, unwrap_or, refl, sym, ap, subst, arith, eqb-true, append-nil, length-append, ◌^◌, Vec}
+use Rattle.std.specs.Global.{Global}
 use Rattle.text_frames.specs.Worlds.{joined}
 use Rattle.ir_names.specs.Tree.{Trees}
 use Rattle.ir_print.specs.Pieces.{ValueTree, Pieces, Values, Entity, entity, Entities}
@@ -30,7 +31,7 @@ use Rattle.text_frames.specs.building.Later.{IsLater}
 use Rattle.text_frames.specs.building.Loose.{IsLooseBlock}
 use Rattle.text_frames.specs.building.Made.{AppendsOperation, lists_of}
 use Rattle.text_frames.specs.building.Trees.{with_last}
-use Rattle.text_frames.proofs.BuildingLemmas.Later.{appends_later, keeps_both, keeps_later, later_both, makes_keeps, same_keeps}
+use Rattle.text_frames.proofs.BuildingLemmas.Later.{appends_later, block_later, keeps_both, keeps_later, later_both, makes_keeps, same_keeps}
 use Rattle.text_frames.proofs.BuildingLemmas.Options.{is_there, no_some}
 use Rattle.text_frames.specs.declared.assembly.Assembly.{Assembly}
 use Rattle.text_frames.specs.Waiting.{Pending}
@@ -44,7 +45,7 @@ use Rattle.text_frames.specs.Frames.{an_operation, sort_at, sort_of, StandsAlone
 use Rattle.text_frames.specs.Makes.{block_in}
 use Rattle.text_frames.specs.Opened.{HasBody}
 use Rattle.text_frames.specs.Raised.{AreWaiting, HoldsAllNew, block_nodes, blocks_of_body, listed_block, with_result, result_names, is_header, has_header, begun_at, named_tokens, IsAroundRoot, IsOpened, RaisesBlock, Raises, IsRaised, RaisesAll}
-use Rattle.text_frames.specs.Worlds.{IsMade, IsOpenBlock, LaterWorld, Rises, PartialModule, values_alone}
+use Rattle.text_frames.specs.Worlds.{NameTokens, IsMade, IsOpenBlock, LaterWorld, Rises, PartialModule, values_alone}
 use Rattle.text_frames.proofs.BuiltBehind.{operations_behind, arguments_behind_header, has_header_behind, result_names_behind}
 use Rattle.text_frames.proofs.Defining.{results_made}
 use Rattle.text_frames.proofs.Ended.{is_text, is_block, alone_names}
@@ -53,9 +54,10 @@ use Rattle.text_frames.proofs.Made.{IsNamed, all_named, block_more, operation_ma
 use Rattle.text_frames.proofs.Opening.{as_many}
 use Rattle.text_frames.proofs.Rising.{get_last, numbered_length, rises_right, set_all_at}
 use Rattle.text_assembling.specs.declared.assembling.Assembler.{Assembler}
-use Rattle.text_assembling.specs.Assembling.{AreSettled, HasMade, Holds, IsUnrooted, Stage, blocks_of, numbers_of, root_nodes, world_of}
+use Rattle.text_assembling.specs.Assembling.{AreLabelled, AreSettled, HasMade, Holds, IsUnrooted, Stage, blocks_of, numbers_of, root_nodes, unmade_label, world_of}
 use Rattle.text_assembling.specs.Steps.{CanMake, EndsOperation, PutsInto, new_root}
 use Rattle.text_assembling.proofs.Held.{held_list, held_makes, held_puts, held_same, outer_apart, outer_loose, taken_apart, taken_loose}
+use Rattle.text_assembling.proofs.Labelled.{labelled_same, unmade_ended, unmade_same}
 use Rattle.text_assembling.proofs.Lists.{get_image, get_shifted, nodes_append, once_apart, once_image}
 use Rattle.text_assembling.proofs.RaisingBlocks.{begun_unrooted, gathered_one, gathered_two, around_with, innermost_raised, EndsMade, ends_made, ends_known, nothing_made, same_world_later, settled_same, pairs_none}
 use Rattle.text_assembling.proofs.SettledDefinitions.{numbers_split, keeps_around}
@@ -126,13 +128,13 @@ open_first _ p h = cc
 -- ---- an operation that ends
 
 module _ {D K A T : Type 0} (says : Saying K A T) (values : Values) (text : ℕ → List ℕ) (start : Seen K A T) (counter : ℕ) (s : Stage K A T) (whole a : Assembler D K A T) (f : Open D K A T) (ended : OpenOperation)
-    (tokens mentions : List ℕ) (is_f : whole.here ≡ f) (is_around : whole.around.items ≡ a.around.items ++ a.here ∷ []) (is_made : a.made ≡ whole.made) (is_body : f.body ≡ body.Operation ended)
+    (names : NameTokens) (is_f : whole.here ≡ f) (is_around : whole.around.items ≡ a.around.items ++ a.here ∷ []) (is_made : a.made ≡ whole.made) (is_body : f.body ≡ body.Operation ended)
     (o : building.Open) (os : List building.Open) (at q : Position) (qs : List Position) (ts : Trees ActionSpan)
-    (ending : Ending says values text s.ctx.types f a.here o at q ts) (inner : IsRaised says values text (world_of s whole tokens mentions) f at ts)
-    (all : RaisesAll says values text (world_of s whole tokens mentions) whole.made.root a.here (begun_at q) o.before (reverse a.around.items) os qs)
-    (none_yet : whole.made.root ≡ None) (held : HoldsAllNew start s.ctx whole.made.loose.items) (stack : IsStacked whole) (definitions : AreSettled s whole tokens counter) where
+    (ending : Ending says values text s.ctx.types f a.here o at q ts) (inner : IsRaised says values text (world_of s whole names) f at ts)
+    (all : RaisesAll says values text (world_of s whole names) whole.made.root a.here (begun_at q) o.before (reverse a.around.items) os qs)
+    (none_yet : whole.made.root ≡ None) (held : HoldsAllNew start s.ctx whole.made.loose.items) (stack : IsStacked whole) (definitions : AreSettled s whole names.definitions counter) where
   abbrev w : PartialModule K A T
-  w = world_of s whole tokens mentions
+  w = world_of s whole names
 
   alone : StandsAlone q
   alone = subst (λ (x : Body D K A T). EndsAt (sort_of x) q) is_body ending.begun.ends
@@ -141,8 +143,8 @@ module _ {D K A T : Type 0} (says : Saying K A T) (values : Values) (text : ℕ 
   begins = subst (λ (x : Body D K A T). Begins x o.action) is_body ending.begun.begins
 
   unnamed : f.numbers.items ≡ []
-  unnamed = pairs_none (λ n k. slice_get tokens n ≡ Some k) f.numbers.items
-      (subst (λ (ks : List ℕ). Pairs (λ n k. slice_get tokens n ≡ Some k) f.numbers.items ks) (operation_unnamed at ts (sym ending.frame.sort ∙ ap sort_of is_body)) inner.numbered)
+  unnamed = pairs_none (λ n k. slice_get names.definitions n ≡ Some k) f.numbers.items
+      (subst (λ (ks : List ℕ). Pairs (λ n k. slice_get names.definitions n ≡ Some k) f.numbers.items ks) (operation_unnamed at ts (sym ending.frame.sort ∙ ap sort_of is_body)) inner.numbered)
 
   inside : Raises says values text w (body.Operation ended) f at ts
   inside = subst (λ (x : Body D K A T). Raises says values text w x f at ts) is_body inner.made
@@ -159,8 +161,8 @@ module _ {D K A T : Type 0} (says : Saying K A T) (values : Values) (text : ℕ 
       gathered_one N a a.around.items refl ∙ sym (gathered_two N whole a.around.items f a.here is_f is_around
       ∙ (ap (λ (ns : List ℕ). (joined (map N a.around.items) ++ a.here.numbers.items) ++ ns) unnamed ∙ append-nil (joined (map N a.around.items) ++ a.here.numbers.items)))
 
-  pub settled_before : AreSettled s a tokens counter
-  settled_before = settled_same s s (nothing_made s) whole a tokens mentions is_made counter numbers_same definitions
+  pub settled_before : AreSettled s a names.definitions counter
+  settled_before = settled_same s s (nothing_made s) whole a names is_made counter numbers_same definitions
 
   -- the blocks around, those of the open block among them, and the blocks that the operation takes in
   abbrev front : List (Ptr BasicBlock)
@@ -203,12 +205,12 @@ module _ {D K A T : Type 0} (says : Saying K A T) (values : Values) (text : ℕ 
   }
 
   -- where there is no room for its results, there is none for the definitions of the text
-  pub numbers_full : 2 ^ 64 ≤ s.counter + length a.here.names.items → 2 ^ 64 ≤ counter + length tokens
+  pub numbers_full : 2 ^ 64 ≤ s.counter + length a.here.names.items → 2 ^ 64 ≤ counter + length names.definitions
   numbers_full full =
       let N : Open D K A T → List ℕ = λ x. x.numbers.items in
       let here : length a.here.numbers.items ≡ length a.here.names.items =
-      as_many (λ n k. slice_get tokens n ≡ Some k) a.here.numbers.items (names_behind [] o.before)
-      (subst (λ (ks : List ℕ). Pairs (λ n k. slice_get tokens n ≡ Some k) a.here.numbers.items ks) (named_before q o.before alone) outer.numbered)
+      as_many (λ n k. slice_get names.definitions n ≡ Some k) a.here.numbers.items (names_behind [] o.before)
+      (subst (λ (ks : List ℕ). Pairs (λ n k. slice_get names.definitions n ≡ Some k) a.here.numbers.items ks) (named_before q o.before alone) outer.numbered)
       ∙ ap length (sym (alone_names q a.here.names.items o.before alone ending.outer.named)) in
       let split : length (numbers_of a) ≡ length (joined (map N a.around.items)) + length a.here.numbers.items =
       ap length (numbers_split a) ∙ length-append (joined (map N a.around.items)) a.here.numbers.items in
@@ -220,9 +222,9 @@ module _ {D K A T : Type 0} (says : Saying K A T) (values : Values) (text : ℕ 
   module _ (kind_at : ℕ → Option K) (t : Stage K A T) (c : Assembler D K A T) (kept : c.around.items ≡ a.around.items) (new : EndsOperation says values kind_at s t.ctx a c ended (pieces_in values text ts))
       (given : t.counter ≡ s.counter + length a.here.names.items) (same : HasBody a.here c.here a.here.body) (first last : ℕ)
       (no_fault : names_fault a.here.names.items first (length (values.result_types ended.kind (pieces_in values text ts))) last ≡ None)
-      (waits : AreWaiting start s.ctx whole.made.pending.items mentions) where
+      (waits : AreWaiting start s.ctx whole.made.pending.items names) (labelled : AreLabelled s whole names.labels) where
     abbrev v : PartialModule K A T
-    v = world_of t c tokens mentions
+    v = world_of t c names
 
     abbrev op : Ptr Operation
     op = new.op
@@ -239,15 +241,15 @@ module _ {D K A T : Type 0} (says : Saying K A T) (values : Values) (text : ℕ 
     abbrev results : List TypedValue
     results = numbered_values (ByOp op) s.counter new.result_types
 
-    numbered_here : Pairs (λ n k. slice_get tokens n ≡ Some k) a.here.numbers.items (names_behind [] o.before)
-    numbered_here = subst (λ (ks : List ℕ). Pairs (λ n k. slice_get tokens n ≡ Some k) a.here.numbers.items ks) (named_before q o.before alone) outer.numbered
+    numbered_here : Pairs (λ n k. slice_get names.definitions n ≡ Some k) a.here.numbers.items (names_behind [] o.before)
+    numbered_here = subst (λ (ks : List ℕ). Pairs (λ n k. slice_get names.definitions n ≡ Some k) a.here.numbers.items ks) (named_before q o.before alone) outer.numbered
 
     names_count : length a.here.names.items ≡ length new.result_types
     names_count = names_many a.here.names.items first (length (values.result_types ended.kind (pieces_in values text ts))) last no_fault
         ∙ sym (as_many (ShowsType says new.typed.types) new.result_types (values.result_types ended.kind (pieces_in values text ts)) new.drafts.typed)
 
     many : length a.here.numbers.items ≡ length new.result_types
-    many = as_many (λ n k. slice_get tokens n ≡ Some k) a.here.numbers.items (names_behind [] o.before) numbered_here
+    many = as_many (λ n k. slice_get names.definitions n ≡ Some k) a.here.numbers.items (names_behind [] o.before) numbered_here
         ∙ (ap length (sym (alone_names q a.here.names.items o.before alone ending.outer.named)) ∙ names_count)
 
     -- ---- the context with the operation
@@ -320,13 +322,18 @@ module _ {D K A T : Type 0} (says : Saying K A T) (values : Values) (text : ℕ 
 
     -- ---- the operation has its tree
 
-    to_same : LaterWorld w (world_of s a tokens mentions)
-    to_same = same_world_later s s (nothing_made s) whole a tokens mentions is_made
+    -- the operation as it waits
+    abbrev waits_now : Pending
+    waits_now = record { op = op; tokens = ended.operands.items; labels = ended.labels.items }
+
+    to_same : LaterWorld w (world_of s a names)
+    to_same = same_world_later s s (nothing_made s) whole a names is_made
 
     pub to_new : LaterWorld w v
-    to_new = world_both w (world_of s a tokens mentions) v to_same
-        (world_defined s t a c (ByOp op) new.result_types tokens mentions counter later many (new.defines many) settled_before
-        (λ i x e. ap (λ (xs : List Pending). slice_get xs i) new.pending ∙ get_left a.made.pending.items (record { op = op; tokens = ended.operands.items } ∷ []) i x e))
+    to_new = world_both w (world_of s a names) v to_same
+        (world_defined s t a c (ByOp op) new.result_types names counter later many (new.defines many) settled_before
+        (λ n b e. ap (λ (bs : Vec (Ptr BasicBlock) Global). slice_get bs.items n) new.blocks ∙ e)
+        (λ i x e. ap (λ (xs : List Pending). slice_get xs i) new.pending ∙ get_left a.made.pending.items (waits_now ∷ []) i x e))
 
     results_named : Pairs (λ d k. IsNamed v d.value k) results (names_behind [] o.before)
     results_named = all_named v a.here.numbers.items results (names_behind [] o.before) numbered_here (many ∙ sym (numbered_length (ByOp op) s.counter new.result_types))
@@ -337,12 +344,12 @@ module _ {D K A T : Type 0} (says : Saying K A T) (values : Values) (text : ℕ 
         (omega arith) i n d.value at_n (get_image (λ (x : TypedValue). x.value) results i d at_d))
 
     made : IsMade says v op tree
-    made = operation_made says values text w v to_new new.typed new.with_it op ended.kind new.kind new.attributes new.result_types s.counter ended.regions.items ended.operands.items
+    made = operation_made says values text w v to_new new.typed new.with_it op ended.kind new.kind new.attributes new.result_types s.counter ended.regions.items ended.operands.items ended.labels.items
         (length a.made.pending.items) (names_behind [] o.before) ts new.makes later_put (λ b x e. typed_keeps.blocks b x e)
         (subst (λ (keys : List T). Drafts says keys values new.kind ended.kind (pieces_in values text ts) new.attributes new.result_types) (sym types_stay) new.drafts)
         results_named
-        (ap (λ (xs : List Pending). slice_get xs (length a.made.pending.items)) new.pending ∙ get_last a.made.pending.items (record { op = op; tokens = ended.operands.items }))
-        inside.0 inside.2
+        (ap (λ (xs : List Pending). slice_get xs (length a.made.pending.items)) new.pending ∙ get_last a.made.pending.items waits_now)
+        inside.operands inside.labels inside.regions
 
     -- the trees with that of the operation
     names_none : names_behind [] us ≡ []
@@ -359,9 +366,9 @@ module _ {D K A T : Type 0} (says : Saying K A T) (values : Values) (text : ℕ 
         (operations_in values text [] o.before)) begins
         ∙ ap (λ (names : List ℕ). with_last (operations_in values text [] o.before) (entity (head_of values text names ts ended.kind) (regions_in values text ts))) e)
 
-    numbered_none : (p : Position) → named_tokens p us ≡ names_behind [] us → Pairs (λ n k. slice_get tokens n ≡ Some k) c.here.numbers.items (named_tokens p us)
-    numbered_none p e = subst (λ (ks : List ℕ). Pairs (λ n k. slice_get tokens n ≡ Some k) c.here.numbers.items ks) (sym (e ∙ names_none))
-        (subst (λ (ns : List ℕ). Pairs (λ n k. slice_get tokens n ≡ Some k) ns []) (sym new.numbers) tt)
+    numbered_none : (p : Position) → named_tokens p us ≡ names_behind [] us → Pairs (λ n k. slice_get names.definitions n ≡ Some k) c.here.numbers.items (named_tokens p us)
+    numbered_none p e = subst (λ (ks : List ℕ). Pairs (λ n k. slice_get names.definitions n ≡ Some k) c.here.numbers.items ks) (sym (e ∙ names_none))
+        (subst (λ (ns : List ℕ). Pairs (λ n k. slice_get names.definitions n ≡ Some k) ns []) (sym new.numbers) tt)
 
     -- the root is made
     root_made : q ≡ at_end → a.here.body ≡ body.Text → RaisesAll says values text v c.made.root c.here at_end us (reverse a.around.items) os qs
@@ -393,10 +400,10 @@ module _ {D K A T : Type 0} (says : Saying K A T) (values : Values) (text : ℕ 
           among = names_none;
           header = has_header_behind o.before step ts ∙ (ap (λ (x : Action). is_header x (has_header o.before)) begins ∙ opened.header);
           names = results_none ∙ sym names_none;
-          block = subst (λ (n : ℕ). IsOpenBlock says v p (text n) (arguments_in values text 0 us) (operations_in values text [] us)) (sym same.first)
-              (subst (λ (xs : List (ℕ × ValueTree)). IsOpenBlock says v p (text a.here.first) xs (operations_in values text [] us)) (sym arguments)
-              (subst (λ (es : Entities ℕ). IsOpenBlock says v p (text a.here.first) (arguments_in values text 0 o.before) es) (sym more)
-              (block_more says w v to_new new.with_it p (text a.here.first) (arguments_in values text 0 o.before) (operations_in values text [] o.before) op tree
+          block = subst (λ (n : ℕ). IsOpenBlock says v p n (text n) (arguments_in values text 0 us) (operations_in values text [] us)) (sym same.first)
+              (subst (λ (xs : List (ℕ × ValueTree)). IsOpenBlock says v p a.here.first (text a.here.first) xs (operations_in values text [] us)) (sym arguments)
+              (subst (λ (es : Entities ℕ). IsOpenBlock says v p a.here.first (text a.here.first) (arguments_in values text 0 o.before) es) (sym more)
+              (block_more says w v to_new new.with_it p a.here.first (text a.here.first) (arguments_in values text 0 o.before) (operations_in values text [] o.before) op tree
               (made_keeps.blocks p opened.block.view opened.block.at ∙ sym opened.block.at) (put_in (Some p) inb) made opened.block)));
         }
 
@@ -435,21 +442,27 @@ module _ {D K A T : Type 0} (says : Saying K A T) (values : Values) (text : ℕ 
         let m = is_there (s.ctx.operation x.op) there in
         no_some m.0 (sym new.makes.fresh ∙ (ap (λ (p : Ptr Operation). new.typed.operation p) (sym is) ∙ typed_keeps.operations x.op m.0 m.1))
 
-    waits_more : AreWaiting start t.ctx c.made.pending.items mentions
-    waits_more = subst (λ (xs : List Pending). AreWaiting start t.ctx xs mentions) (sym new.pending)
-        (waiting_more start t.ctx a.made.pending.items (record { op = op; tokens = ended.operands.items }) _ mentions (operations_stay op ∙ new.makes.made) refl
-        (fresh_at (start.operation op) refl) not_this inside.1
-        (waiting_kept start s.ctx t.ctx a.made.pending.items mentions (λ p u e. operations_stay p ∙ made_keeps.operations p u e)
-        (subst (λ (z : Assembly). AreWaiting start s.ctx z.pending.items mentions) (sym is_made) waits)))
+    waits_more : AreWaiting start t.ctx c.made.pending.items names
+    waits_more = subst (λ (xs : List Pending). AreWaiting start t.ctx xs names) (sym new.pending)
+        (waiting_more start t.ctx a.made.pending.items waits_now _ names (operations_stay op ∙ new.makes.made) refl refl
+        (fresh_at (start.operation op) refl) not_this inside.mentioned inside.labels_mentioned
+        (waiting_kept start s.ctx t.ctx a.made.pending.items names (λ p u e. operations_stay p ∙ made_keeps.operations p u e)
+        (subst (λ (z : Assembly). AreWaiting start s.ctx z.pending.items names) (sym is_made) waits)))
 
-    settled_now : AreSettled t c tokens counter
-    settled_now = settled_defined s t a c (ByOp op) new.result_types tokens mentions counter later many (new.defines many) settled_before kept new.numbers
+    settled_now : AreSettled t c names.definitions counter
+    settled_now = settled_defined s t a c (ByOp op) new.result_types names counter later many (new.defines many) settled_before kept new.numbers
         (ap (λ (u : Option (SeenOperation K A)). unwrap_or (option_map (λ (x : SeenOperation K A). x.results) u) []) (operations_stay op)
         ∙ results_made new.typed new.with_it op new.kind new.attributes new.result_types s.counter taken new.makes)
         (given ∙ ap (λ (n : ℕ). s.counter + n) names_count)
 
+    labels_now : AreLabelled t c names.labels
+    labels_now = labelled_same s t whole c names.labels
+        (unmade_ended whole c a.here (is_around ∙ ap (λ (xs : List (Open D K A T)). xs ++ a.here ∷ []) (sym kept)) (unmade_same a.here c.here same.body same.first)
+        (ap (λ (x : Open D K A T). unmade_label x.body x.first) is_f ∙ ap (λ (x : Body D K A T). unmade_label x f.first) is_body))
+        (new.blocks ∙ ap (λ (z : Assembly). z.blocks) is_made) (λ b d. block_later s.ctx t.ctx later b d) labelled
+
     abbrev Ends : Type 0
-    Ends = EndsMade says values text start counter s t whole c f a.here a.around.items tokens mentions is_f is_around kept o os q qs ts last
+    Ends = EndsMade says values text start counter s t whole c f a.here a.around.items names is_f is_around kept o os q qs ts last
 
     pub operation_ends : Ends
     operation_ends = go there
@@ -463,6 +476,7 @@ module _ {D K A T : Type 0} (says : Saying K A T) (values : Values) (text : ℕ 
               ∙ ap (λ (r : Option (Ptr Operation)). block_nodes (blocks_of c) ++ root_nodes r) (sym (new.root is)));
           unrooted = subst (λ (x : Position). IsUnrooted x c.made.root) (sym e) tt;
           definitions = settled_now;
+          blocks = labels_now;
           operands = waits_more;
         }
         go (in_open_block ob p e is ob_is opened) =
@@ -475,12 +489,13 @@ module _ {D K A T : Type 0} (says : Saying K A T) (values : Values) (text : ℕ 
               stack = stack_of c others blocks_are (stays_unrooted p inb) loose;
               unrooted = still_unrooted q c.made.root (stays_unrooted p inb);
               definitions = settled_now;
+              blocks = labels_now;
               operands = waits_more;
             }
 
 module _ {D K A T : Type 0} (says : Saying K A T) (values : Values) (text : ℕ → List ℕ) (start : Seen K A T) (counter : ℕ) (s : Stage K A T) (whole a : Assembler D K A T) (f : Open D K A T) (ended : OpenOperation)
-    (tokens mentions : List ℕ) (is_f : whole.here ≡ f) (is_around : whole.around.items ≡ a.around.items ++ a.here ∷ []) (is_made : a.made ≡ whole.made) (is_body : f.body ≡ body.Operation ended)
-    (b : Built) (at next : Standing) (holds : Holds says values text s.ctx.types whole b at) (made : HasMade says values text start counter s whole b at tokens mentions) (out : moved_out at.around ≡ Some next) where
+    (names : NameTokens) (is_f : whole.here ≡ f) (is_around : whole.around.items ≡ a.around.items ++ a.here ∷ []) (is_made : a.made ≡ whole.made) (is_body : f.body ≡ body.Operation ended)
+    (b : Built) (at next : Standing) (holds : Holds says values text s.ctx.types whole b at) (made : HasMade says values text start counter s whole b at names) (out : moved_out at.around ≡ Some next) where
   -- what the pieces of the operation show
   abbrev ps : Pieces
   ps = pieces_in values text b.here
@@ -488,14 +503,14 @@ module _ {D K A T : Type 0} (says : Saying K A T) (values : Values) (text : ℕ 
   -- it says its pieces
   pub operation_shown : ShowsParts says s.ctx.types f.content.value.parts.items ps
   operation_shown =
-      ends_known says values text start counter s whole f a.here a.around.items tokens mentions is_f is_around (λ os n. ShowsParts says s.ctx.types f.content.value.parts.items ps) b at next holds made out
+      ends_known says values text start counter s whole f a.here a.around.items names is_f is_around (λ os n. ShowsParts says s.ctx.types f.content.value.parts.items ps) b at next holds made out
       (λ o os q qs ending inner all. (subst (λ (x : Body D K A T). Contains says values text s.ctx.types x f.content.value b.here) is_body ending.frame.contains).parts)
 
   -- it can be made
   pub operation_can : CanMake s.ctx a.here.body (lists_of ended.regions.items)
   operation_can =
-      ends_known says values text start counter s whole f a.here a.around.items tokens mentions is_f is_around (λ os n. CanMake s.ctx a.here.body (lists_of ended.regions.items)) b at next holds made out
-      (λ o os q qs ending inner all. can_make says values text start counter s whole a f ended tokens mentions is_f is_around is_made is_body o os at.here q qs b.here ending inner all
+      ends_known says values text start counter s whole f a.here a.around.items names is_f is_around (λ os n. CanMake s.ctx a.here.body (lists_of ended.regions.items)) b at next holds made out
+      (λ o os q qs ending inner all. can_make says values text start counter s whole a f ended names is_f is_around is_made is_body o os at.here q qs b.here ending inner all
       (begun_unrooted says values text s.ctx.types f a.here o q b.here at.here ending whole.made.root made.unrooted) made.held made.stack made.definitions)
 
   -- an operation that ends keeps what has been made
@@ -504,18 +519,18 @@ module _ {D K A T : Type 0} (says : Saying K A T) (values : Values) (text : ℕ 
       → (ShowsParts says s.ctx.types f.content.value.parts.items ps
       → OnOk r ((values.refused_operation ended.kind ps ≡ None) × (names_fault a.here.names.items first (length (values.result_types ended.kind ps)) last ≡ None)))
       → OnOk r ((t.counter ≡ s.counter + length a.here.names.items) × HasBody a.here c.here a.here.body)
-      → OnOk r (HasMade says values text start counter t c (with_end b.here b.around last) next tokens mentions)
+      → OnOk r (HasMade says values text start counter t c (with_end b.here b.around last) next names)
   operation_raised kind_at t c kept first last r makes ends rest =
-      ends_made says values text start counter s t whole c f a.here a.around.items tokens mentions is_f is_around kept b at next last r holds made out
+      ends_made says values text start counter s t whole c f a.here a.around.items names is_f is_around kept b at next last r holds made out
       (λ o os q qs ending inner all none_yet.
       on_ok_both r (on_ok_both r (makes operation_shown) (ends operation_shown) (λ x y. (x, y))) rest
       (λ (x : EndsOperation says values kind_at s t.ctx a c ended ps × ((values.refused_operation ended.kind ps ≡ None) × (names_fault a.here.names.items first (length (values.result_types ended.kind ps)) last ≡ None)))
       (y : (t.counter ≡ s.counter + length a.here.names.items) × HasBody a.here c.here a.here.body).
-      operation_ends says values text start counter s whole a f ended tokens mentions is_f is_around is_made is_body o os at.here q qs b.here ending inner all none_yet made.held made.stack made.definitions
-      kind_at t c kept x.0 y.0 y.1 first last x.1.1 made.operands))
+      operation_ends says values text start counter s whole a f ended names is_f is_around is_made is_body o os at.here q qs b.here ending inner all none_yet made.held made.stack made.definitions
+      kind_at t c kept x.0 y.0 y.1 first last x.1.1 made.operands made.blocks))
 
-  pub operation_full : 2 ^ 64 ≤ s.counter + length a.here.names.items → 2 ^ 64 ≤ counter + length tokens
+  pub operation_full : 2 ^ 64 ≤ s.counter + length a.here.names.items → 2 ^ 64 ≤ counter + length names.definitions
   operation_full full =
-      ends_known says values text start counter s whole f a.here a.around.items tokens mentions is_f is_around (λ os n. 2 ^ 64 ≤ counter + length tokens) b at next holds made out
-      (λ o os q qs ending inner all. numbers_full says values text start counter s whole a f ended tokens mentions is_f is_around is_made is_body o os at.here q qs b.here ending inner all
+      ends_known says values text start counter s whole f a.here a.around.items names is_f is_around (λ os n. 2 ^ 64 ≤ counter + length names.definitions) b at next holds made out
+      (λ o os q qs ending inner all. numbers_full says values text start counter s whole a f ended names is_f is_around is_made is_body o os at.here q qs b.here ending inner all
       (begun_unrooted says values text s.ctx.types f a.here o q b.here at.here ending whole.made.root made.unrooted) made.held made.stack made.definitions full)

@@ -1,5 +1,5 @@
 -- What each action keeps of what has been made.
-use Rattle.std.proofs.Common.{◌≡◌, inl, inr, ℕ, List, [], ◌++◌, Some, Result, Ok, Err, OnOk, sym, subst, append-nil}
+use Rattle.std.proofs.Common.{◌≡◌, inl, inr, ℕ, List, Some, Result, Ok, Err, OnOk, sym, subst, append-nil}
 use Rattle.std.proofs.lemmas.Result.{on_ok_weaker}
 use Rattle.ir_print.specs.Pieces.{Values}
 use Rattle.ir_print.specs.Shown.{Saying}
@@ -11,11 +11,12 @@ use Rattle.text_frames.specs.declared.opened.AssemblyFault.{AssemblyFault}
 use Rattle.ir_forest.specs.Building.{Built, after, with_end}
 use Rattle.ir_grammar.specs.Nesting.{Position, move}
 use Rattle.ir_formats.specs.Ordered.{Standing, moved_by, moved_out}
-use Rattle.text_frames.specs.Raised.{MayEnd}
+use Rattle.text_frames.specs.Raised.{MayEnd, names_after}
 use Rattle.text_assembling.specs.Assembling.{HasMade, Stage}
-use Rattle.ir_scopes.specs.Naming.{defined_by, mentioned_by}
-use Rattle.text_frames.proofs.Moving.{operation_out, region_out, block_out, type_out, attribute_out, operands_out, item_out, list_out}
+use Rattle.text_frames.specs.Worlds.{NameTokens}
+use Rattle.text_frames.proofs.Moving.{operation_out, region_out, block_out, type_out, attribute_out, operands_out, edge_out, item_out, list_out}
 use Rattle.text_assembling.proofs.RaisingBlocks.{may_end}
+use Rattle.text_assembling.proofs.RaisingLeaves.{none_more}
 use Rattle.text_assembling.proofs.Stepping.{IsAnEnd}
 
 pub ok_both : {E : Type 0} (P Q : Type 0) (r : Result (Unit {0}) E) → OnOk r P → OnOk r Q → OnOk r (P × Q)
@@ -32,23 +33,24 @@ module _ (around : List Position) (next : Standing) (p : Position) where
   ends_out x (inr (inr (inr (inr (inl e))))) m = (attribute_out around next p (subst (λ (z : Action). moved_by (move p z) around ≡ Some next) e m)).0
   ends_out x (inr (inr (inr (inr (inr (inl e)))))) m = (operands_out around next p (subst (λ (z : Action). moved_by (move p z) around ≡ Some next) e m)).0
   ends_out x (inr (inr (inr (inr (inr (inr (inl e))))))) m = (item_out around next p (subst (λ (z : Action). moved_by (move p z) around ≡ Some next) e m)).0
-  ends_out x (inr (inr (inr (inr (inr (inr (inr e))))))) m = (list_out around next p (subst (λ (z : Action). moved_by (move p z) around ≡ Some next) e m)).0
+  ends_out x (inr (inr (inr (inr (inr (inr (inr (inl e)))))))) m = (list_out around next p (subst (λ (z : Action). moved_by (move p z) around ≡ Some next) e m)).0
+  ends_out x (inr (inr (inr (inr (inr (inr (inr (inr e)))))))) m = (edge_out around next p (subst (λ (z : Action). moved_by (move p z) around ≡ Some next) e m)).0
 
-module _ {D K A T : Type 0} (says : Saying K A T) (values : Values) (text : ℕ → List ℕ) (start : Seen K A T) (counter : ℕ) (t : Stage K A T) (c : Assembler D K A T) (b : Built) (next : Standing) (k : ℕ) (tokens mentions : List ℕ) (r : Result (Unit {0}) AssemblyFault) where
+module _ {D K A T : Type 0} (says : Saying K A T) (values : Values) (text : ℕ → List ℕ) (start : Seen K A T) (counter : ℕ) (t : Stage K A T) (c : Assembler D K A T) (b : Built) (next : Standing) (k : ℕ) (names : NameTokens) (r : Result (Unit {0}) AssemblyFault) where
   -- what is made after an action at a token
   abbrev pub MadeAfter : Action → Type 0
-  MadeAfter x = HasMade says values text start counter t c (after b x k) next (tokens ++ defined_by x k) (mentions ++ mentioned_by x k)
+  MadeAfter x = HasMade says values text start counter t c (after b x k) next (names_after names x k)
 
   pub made_by : (x y : Action) → x ≡ y → OnOk r (MadeAfter y) → OnOk r (MadeAfter x)
   made_by x y e h = subst (λ (z : Action). OnOk r (MadeAfter z)) (sym e) h
 
   -- an end names nothing
   pub end_made : (at : Standing) (x : Action) → IsAnEnd x → moved_by (move at.here x) at.around ≡ Some next
-      → (moved_out at.around ≡ Some next → MayEnd at.here → OnOk r (HasMade says values text start counter t c (with_end b.here b.around k) next tokens mentions)) → OnOk r (MadeAfter x)
-  end_made at x is moved h = by x is (on_ok_weaker r (λ (y : HasMade says values text start counter t c (with_end b.here b.around k) next tokens mentions). rw (append-nil tokens, append-nil mentions) y)
+      → (moved_out at.around ≡ Some next → MayEnd at.here → OnOk r (HasMade says values text start counter t c (with_end b.here b.around k) next names)) → OnOk r (MadeAfter x)
+  end_made at x is moved h = by x is (on_ok_weaker r (λ (y : HasMade says values text start counter t c (with_end b.here b.around k) next names). rw (append-nil names.definitions, append-nil names.mentions, append-nil names.labels, append-nil names.edges) y)
       (h (ends_out at.around next at.here x is moved) (may_end at.around next at.here x is moved)))
     where
-      by : (x : Action) → IsAnEnd x → OnOk r (HasMade says values text start counter t c (with_end b.here b.around k) next (tokens ++ []) (mentions ++ [])) → OnOk r (MadeAfter x)
+      by : (x : Action) → IsAnEnd x → OnOk r (HasMade says values text start counter t c (with_end b.here b.around k) next (none_more names)) → OnOk r (MadeAfter x)
       by x (inl e) y = made_by x act.EndOperation e y
       by x (inr (inl e)) y = made_by x act.EndRegion e y
       by x (inr (inr (inl e))) y = made_by x act.EndBlock e y
@@ -56,4 +58,5 @@ module _ {D K A T : Type 0} (says : Saying K A T) (values : Values) (text : ℕ 
       by x (inr (inr (inr (inr (inl e))))) y = made_by x act.EndAttribute e y
       by x (inr (inr (inr (inr (inr (inl e)))))) y = made_by x act.EndOperands e y
       by x (inr (inr (inr (inr (inr (inr (inl e))))))) y = made_by x act.EndItem e y
-      by x (inr (inr (inr (inr (inr (inr (inr e))))))) y = made_by x act.EndList e y
+      by x (inr (inr (inr (inr (inr (inr (inr (inl e)))))))) y = made_by x act.EndList e y
+      by x (inr (inr (inr (inr (inr (inr (inr (inr e)))))))) y = made_by x act.EndSuccessor e y

@@ -1,5 +1,6 @@
 -- What a step that names or makes something does to the definitions, to the operations that wait, and to the world.
-use Rattle.std.proofs.Common.{◌≡◌, ◌≢◌, ◌∙◌, ℕ, ◌+◌, inl, inr, List, [], ◌∷◌, ◌++◌, map, length, Option, Some, None, IsSome, slice_get, option_map, unwrap_or, sym, ap, subst, append-nil}
+use Rattle.std.proofs.Common.{◌≡◌, ◌≢◌, ◌∙◌, ℕ, ◌+◌, inl, inr, List, [], ◌∷◌, ◌++◌, map, length, Option, Some, None, IsSome, slice_get, option_map, unwrap_or, sym, ap, subst, append-nil, Vec}
+use Rattle.std.specs.Global.{Global}
 use Rattle.std.proofs.lemmas.List.{map-append}
 use Rattle.text_frames.specs.Worlds.{joined}
 use Rattle.ir_base.specs.declared.types.TypeHandle.{TypeHandle}
@@ -23,9 +24,9 @@ use Rattle.text_frames.proofs.BuildingLemmas.Options.{is_there, there}
 use Rattle.text_frames.specs.Waiting.{Pending, Waiting}
 use Rattle.text_frames.specs.declared.opened.Open.{Open}
 use Rattle.text_frames.specs.Raised.{AreWaiting, HoldsAllNew, block_nodes}
-use Rattle.text_frames.specs.Worlds.{AreAmong, LaterWorld, operands_of, set_all, values_alone}
+use Rattle.text_frames.specs.Worlds.{AreAmong, NameTokens, LaterNames, LaterWorld, operands_of, successors_of, set_all, values_alone}
 use Rattle.text_frames.proofs.Defining.{numbered_defined}
-use Rattle.text_frames.proofs.LaterWorlds.{get_left, get_right, among_same, later_same, KeepsEach}
+use Rattle.text_frames.proofs.LaterWorlds.{get_left, get_right, among_both, names_same, later_same, KeepsEach}
 use Rattle.text_frames.proofs.Rising.{get_map, made_length, set_all_keeps}
 use Rattle.text_assembling.specs.declared.assembling.Assembler.{Assembler}
 use Rattle.text_assembling.specs.Assembling.{AreSettled, IsUnrooted, NamesOne, Stage, blocks_of, root_nodes, world_of}
@@ -61,13 +62,13 @@ module _ {D K A T : Type 0} where
 
 -- ---- a definition is named
 
-module _ {D K A T : Type 0} (s : Stage K A T) (a c : Assembler D K A T) (tokens mentions : List ℕ) where
-  pub world_named : (k : ℕ) → NamesOne a c → LaterWorld (world_of s a tokens mentions) (world_of s c (tokens ++ k ∷ []) mentions)
-  world_named k new = record {
+module _ {D K A T : Type 0} (s : Stage K A T) (a c : Assembler D K A T) (names : NameTokens) where
+  pub world_named : (more : NameTokens) → LaterNames names more → NamesOne a c → LaterWorld (world_of s a names) (world_of s c more)
+  world_named more later new = record {
     ctx = later_same s.ctx;
     values = λ n x h. ap (λ (xs : List (Option Value)). slice_get xs n) new.values ∙ get_left a.made.values.items (None ∷ []) n (Some x) h;
-    tokens = λ n j h. get_left tokens (k ∷ []) n j h;
-    mentions = among_same mentions;
+    blocks = λ n b h. ap (λ (v : Vec (Ptr BasicBlock) Global). slice_get v.items n) new.blocks ∙ h;
+    names = later;
     pending = λ i x h. ap (λ (xs : Waiting). slice_get xs.items i) new.pending ∙ h;
   }
 
@@ -80,26 +81,27 @@ module _ {D K A T : Type 0} (s : Stage K A T) (a : Assembler D K A T) (tokens : 
 
 -- ---- what is named innermost is made
 
-module _ {D K A T : Type 0} (s t : Stage K A T) (a c : Assembler D K A T) (e : DefiningEntity) (types : List TypeHandle) (tokens mentions : List ℕ) (counter : ℕ)
+module _ {D K A T : Type 0} (s t : Stage K A T) (a c : Assembler D K A T) (e : DefiningEntity) (types : List TypeHandle) (names : NameTokens) (counter : ℕ)
     (later : IsLater s.ctx t.ctx) (many : length a.here.numbers.items ≡ length types)
     (values : c.made.values.items ≡ set_all a.here.numbers.items (values_alone (numbered_values e s.counter types)) a.made.values.items)
-    (settled : AreSettled s a tokens counter) where
+    (settled : AreSettled s a names.definitions counter) where
   pub settled_defined : c.around.items ≡ a.around.items → c.here.numbers.items ≡ [] → values_of t.ctx e ≡ numbered_values e s.counter types → t.counter ≡ s.counter + length types
-      → AreSettled t c tokens counter
+      → AreSettled t c names.definitions counter
   settled_defined around numbers made given =
       let long : length (values_alone (numbered_values e s.counter types)) ≡ length types = made_length e s.counter types in
-      settled_here s t a c tokens counter (values_alone (numbered_values e s.counter types)) around numbers values (long ∙ sym many)
+      settled_here s t a c names.definitions counter (values_alone (numbered_values e s.counter types)) around numbers values (long ∙ sym many)
       (λ i v at. numbered_defined t.ctx e s.counter types made i v at)
       (λ v h. defined_later s.ctx t.ctx later v h) (given ∙ ap (λ (n : ℕ). s.counter + n) (sym long)) settled
 
-  pub world_defined : ((i : ℕ) (x : Pending) → slice_get a.made.pending.items i ≡ Some x → slice_get c.made.pending.items i ≡ Some x)
-      → LaterWorld (world_of s a tokens mentions) (world_of t c tokens mentions)
-  world_defined pending = record {
+  pub world_defined : ((n : ℕ) (b : Ptr BasicBlock) → slice_get a.made.blocks.items n ≡ Some b → slice_get c.made.blocks.items n ≡ Some b)
+      → ((i : ℕ) (x : Pending) → slice_get a.made.pending.items i ≡ Some x → slice_get c.made.pending.items i ≡ Some x)
+      → LaterWorld (world_of s a names) (world_of t c names)
+  world_defined blocks pending = record {
     ctx = later;
     values = λ n x at. ap (λ (xs : List (Option Value)). slice_get xs n) values
-        ∙ set_all_keeps a.here.numbers.items (values_alone (numbered_values e s.counter types)) a.made.values.items (here_waits s a tokens counter settled) n x at;
-    tokens = λ n k at. at;
-    mentions = among_same mentions;
+        ∙ set_all_keeps a.here.numbers.items (values_alone (numbered_values e s.counter types)) a.made.values.items (here_waits s a names.definitions counter settled) n x at;
+    blocks = blocks;
+    names = names_same names;
     pending = pending;
   }
 
@@ -107,22 +109,37 @@ module _ {D K A T : Type 0} (s t : Stage K A T) (a c : Assembler D K A T) (e : D
 
 module _ {K A T : Type 0} (start : Seen K A T) where
   -- operations that wait do so where each operation is what it was
-  pub waiting_kept : (s t : Seen K A T) (pending : List Pending) (mentions : List ℕ) → ((p : Ptr Operation) (o : SeenOperation K A) → s.operation p ≡ Some o → t.operation p ≡ Some o)
-      → AreWaiting start s pending mentions → AreWaiting start t pending mentions
-  waiting_kept s t pending mentions kept h = record {
+  pub waiting_kept : (s t : Seen K A T) (pending : List Pending) (names : NameTokens) → ((p : Ptr Operation) (o : SeenOperation K A) → s.operation p ≡ Some o → t.operation p ≡ Some o)
+      → AreWaiting start s pending names → AreWaiting start t pending names
+  waiting_kept s t pending names kept h = record {
     once = h.once;
     there = λ i x e. (let m = is_there (s.operation x.op) (h.there i x e) in there (t.operation x.op) m.0 (kept x.op m.0 m.1));
     came = h.came;
     empty = λ i x e. (let m = is_there (s.operation x.op) (h.there i x e) in
         ap (λ (o : Option (SeenOperation K A)). unwrap_or (option_map (λ (v : SeenOperation K A). v.operands) o) []) (kept x.op m.0 m.1 ∙ sym m.1) ∙ h.empty i x e);
+    no_successors = λ i x e. (let m = is_there (s.operation x.op) (h.there i x e) in
+        ap (λ (o : Option (SeenOperation K A)). unwrap_or (option_map (λ (v : SeenOperation K A). v.successors) o) []) (kept x.op m.0 m.1 ∙ sym m.1) ∙ h.no_successors i x e);
     among = h.among;
+    labels_among = h.labels_among;
+  }
+
+  -- and where more names are read
+  pub waiting_longer : (s : Seen K A T) (pending : List Pending) (names more : NameTokens) → LaterNames names more → AreWaiting start s pending names → AreWaiting start s pending more
+  waiting_longer s pending names more later h = record {
+    once = h.once;
+    there = h.there;
+    came = h.came;
+    empty = h.empty;
+    no_successors = h.no_successors;
+    among = λ i x e. among_both x.tokens names.mentions more.mentions (h.among i x e) later.mentions;
+    labels_among = λ i x e. among_both x.labels names.edges more.edges (h.labels_among i x e) later.edges;
   }
 
   -- one more operation waits, which wasn't there
-  pub waiting_more : (s : Seen K A T) (pending : List Pending) (new : Pending) (o : SeenOperation K A) (mentions : List ℕ) → s.operation new.op ≡ Some o → o.operands ≡ []
-      → start.operation new.op ≡ None → ((i : ℕ) (x : Pending) → slice_get pending i ≡ Some x → x.op ≢ new.op) → AreAmong new.tokens mentions
-      → AreWaiting start s pending mentions → AreWaiting start s (pending ++ new ∷ []) mentions
-  waiting_more s pending new o mentions at none fresh other among h = record {
+  pub waiting_more : (s : Seen K A T) (pending : List Pending) (new : Pending) (o : SeenOperation K A) (names : NameTokens) → s.operation new.op ≡ Some o → o.operands ≡ [] → o.successors ≡ []
+      → start.operation new.op ≡ None → ((i : ℕ) (x : Pending) → slice_get pending i ≡ Some x → x.op ≢ new.op) → AreAmong new.tokens names.mentions → AreAmong new.labels names.edges
+      → AreWaiting start s pending names → AreWaiting start s (pending ++ new ∷ []) names
+  waiting_more s pending new o names at none no_edge fresh other among labels h = record {
     once = subst (λ (ps : List (Ptr Operation)). AreDistinctHandles ps) (sym (map-append (λ (x : Pending). x.op) pending (new ∷ [])))
         (once_put (map (λ (x : Pending). x.op) pending) new.op h.once (λ k e. not_there k e));
     there = λ i x e. elim (get_either pending (new ∷ []) i x e) [
@@ -140,7 +157,16 @@ module _ {K A T : Type 0} (start : Seen K A T) where
     ];
     among = λ i x e. elim (get_either pending (new ∷ []) i x e) [
       | inl f ↦ h.among i x f
-      | inr f ↦ subst (λ (y : Pending). AreAmong y.tokens mentions) (only_one new f.0 x f.1).1 among
+      | inr f ↦ subst (λ (y : Pending). AreAmong y.tokens names.mentions) (only_one new f.0 x f.1).1 among
+    ];
+    no_successors = λ i x e. elim (get_either pending (new ∷ []) i x e) [
+      | inl f ↦ h.no_successors i x f
+      | inr f ↦ subst (λ (y : Pending). successors_of s y.op ≡ []) (only_one new f.0 x f.1).1
+          (ap (λ (u : Option (SeenOperation K A)). unwrap_or (option_map (λ (v : SeenOperation K A). v.successors) u) []) at ∙ no_edge)
+    ];
+    labels_among = λ i x e. elim (get_either pending (new ∷ []) i x e) [
+      | inl f ↦ h.labels_among i x f
+      | inr f ↦ subst (λ (y : Pending). AreAmong y.labels names.edges) (only_one new f.0 x f.1).1 labels
     ];
   }
     where

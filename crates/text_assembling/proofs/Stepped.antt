@@ -1,5 +1,5 @@
 -- Where each action leads to.
-use Rattle.std.proofs.Common.{◌≡◌, ◌∙◌, inl, inr, ℕ, ◌+◌, ◌-◌, ◌≤◌, ◌^◌, Bool, true, List, [], ◌∷◌, ◌++◌, length, reverse, Option, Some, None, Result, Ok, Err, OnOk, slice_get, Vec, refl, sym, ap, subst, append-nil}
+use Rattle.std.proofs.Common.{◌≡◌, ◌∙◌, ◌⊎◌, inl, inr, ℕ, ◌+◌, ◌-◌, ◌≤◌, ◌^◌, Bool, true, List, [], ◌∷◌, ◌++◌, length, reverse, Option, Some, None, Result, Ok, Err, OnOk, slice_get, Vec, refl, sym, ap, subst, append-nil}
 use Rattle.std.specs.Global.{Global}
 use Rattle.ir_context.specs.Known.{AreKnownIn}
 use Rattle.ir_names.specs.Identifier.{text_of}
@@ -30,15 +30,16 @@ use Rattle.text_frames.proofs.Framing.{innermost}
 use Rattle.text_frames.proofs.Moving as moving
 use Rattle.text_frames.proofs.Moving.{type_begins, name_stays, number_stays, width_stays, result_goes, argument_goes, header_goes, operand_goes}
 use Rattle.text_assembling.specs.declared.assembling.Assembler.{Assembler}
-use Rattle.text_assembling.specs.Assembling.{Begun, KeepsAround, NamesOne, Stage}
+use Rattle.text_assembling.specs.Assembling.{Begun, KeepsAround, NamesOne, Stage, world_of}
 use Rattle.text_assembling.specs.Steps.{HasEnded, HasStepped, IsAt, MakesBlock, ActionIsInPlace, MayGoOut, Progress, progress_after, progress_ended}
-use Rattle.text_assembling.proofs.RaisingBegins.{type_enters, attribute_enters, list_enters, item_enters, value_begins, operation_begins, region_begins, operands_begin, block_begins}
+use Rattle.text_assembling.proofs.RaisingBegins.{type_enters, attribute_enters, list_enters, item_enters, value_begins, operation_begins, region_begins, operands_begin, edge_begins, block_begins}
+use Rattle.text_assembling.proofs.Outside.{around_block}
 use Rattle.text_assembling.proofs.RaisingBlocks.{may_end}
 use Rattle.text_assembling.proofs.RaisingHeaders.{header_at, header_full, header_known, header_made, header_spelt}
-use Rattle.text_assembling.proofs.RaisingLeaves.{neutral_name, neutral_number, neutral_width, part_made, operand_made, result_made, argument_made}
+use Rattle.text_assembling.proofs.RaisingLeaves.{neutral_name, neutral_number, neutral_width, none_more, part_made, operand_made, handed_on_made, result_made, argument_made}
 use Rattle.text_assembling.proofs.RaisingSteps.{ends_out}
 use Rattle.text_assembling.proofs.Settling.{unrooted}
-use Rattle.text_assembling.proofs.Stepping.{IsAnEnd, begins, went_name, went_number, went_width, went_result, went_argument, the_block, went_header, the_operands, went_operand}
+use Rattle.text_assembling.proofs.Stepping.{IsAnEnd, begins, went_name, went_number, went_width, went_result, went_argument, the_block, went_header, the_operands, went_operand, the_edge, went_handed_on}
 
 -- what is well on both counts is so together
 pub on_ok_both : {X E P Q R : Type 0} (r : Result X E) → OnOk r P → OnOk r Q → (P → Q → R) → OnOk r R
@@ -65,8 +66,8 @@ module _ {D K A T : Type 0} (says : Saying K A T) (values : Values) (text : ℕ 
 
   -- what ends leads on as its end does
   ended_at : (g : Progress K A T) (next : Standing) (k : ℕ) → IsAt says values text t c (progress_ended g k next)
-      → IsAt says values text t c (record { start = g.start; first = g.first; built = with_end g.built.here g.built.around k; standing = next; tokens = g.tokens ++ []; mentions = g.mentions ++ [] })
-  ended_at g next k h = record { holds = h.holds; made = rw (append-nil g.tokens, append-nil g.mentions) h.made }
+      → IsAt says values text t c (record { start = g.start; first = g.first; built = with_end g.built.here g.built.around k; standing = next; names = none_more g.names })
+  ended_at g next k h = record { holds = h.holds; made = rw (append-nil g.names.definitions, append-nil g.names.mentions, append-nil g.names.labels, append-nil g.names.edges) h.made }
 
   at_end : (g : Progress K A T) (next : Standing) (k : ℕ) (x y : Action) → x ≡ y → (fault_after values text g.built y k ≡ None) × IsAt says values text t c (progress_after g y k next)
       → (fault_after values text g.built x k ≡ None) × IsAt says values text t c (progress_after g x k next)
@@ -82,7 +83,8 @@ module _ {D K A T : Type 0} (says : Saying K A T) (values : Values) (text : ℕ 
   ended_after g next k x (inr (inr (inr (inr (inl e))))) w = at_end g next k x act.EndAttribute e (w.0, ended_at g next k w.1)
   ended_after g next k x (inr (inr (inr (inr (inr (inl e)))))) w = at_end g next k x act.EndOperands e (refl, ended_at g next k w.1)
   ended_after g next k x (inr (inr (inr (inr (inr (inr (inl e))))))) w = at_end g next k x act.EndItem e (refl, ended_at g next k w.1)
-  ended_after g next k x (inr (inr (inr (inr (inr (inr (inr e))))))) w = at_end g next k x act.EndList e (refl, ended_at g next k w.1)
+  ended_after g next k x (inr (inr (inr (inr (inr (inr (inr (inl e)))))))) w = at_end g next k x act.EndList e (refl, ended_at g next k w.1)
+  ended_after g next k x (inr (inr (inr (inr (inr (inr (inr (inr e)))))))) w = at_end g next k x act.EndSuccessor e (refl, ended_at g next k w.1)
 
   pub stepped_end : (x : Action) → IsAnEnd x → HasEnded says values s a t c → HasStepped says values text s a t c x
   stepped_end x is ended g next at goes = ended_after g next (a.taken - 1) x is (ended text g next at (goes_out text a g next x is goes))
@@ -98,36 +100,57 @@ module _ {D K A T : Type 0} (says : Saying K A T) (values : Values) (text : ℕ 
       let o = the_block says values text s.ctx.types a c g.built g.standing next k at.holds along.1 in
       let keeps : KeepsKeys s.ctx.types t.ctx.types = λ i key e. ap (λ (keys : List T). slice_get keys i) new.opens.types ∙ e in
       let w = went_header says values text s.ctx.types a c g.built g.standing next k at.holds t.ctx.types keeps along kept o.0 (record { block = Some new.block }) o.1
-      (record { body = new.body; first = first; names = names }) in
-      (w.0, record { holds = w.1; made = header_made says values text g.start g.first s a g.built g.standing g.tokens g.mentions at.made place.0 o.0 o.1 none_yet t c kept first new given k next place.1 })
+      (record { body = new.body; first = first; names = names }) in (
+        w.0,
+        record {
+          holds = w.1;
+          made = header_made says values text g.start g.first s a g.built g.standing g.names at.made place.0 o.0 o.1 none_yet
+              (around_block says values text (world_of s a g.names) s.ctx.types a.made.root a.here g.standing.here g.built.here a.around.items g.built.around g.standing.around (ap sort_of o.1) at.holds at.made.frames)
+              t c kept first new given k next place.1;
+        },
+      )
 
 module _ {D K A T : Type 0} (says : Saying K A T) (values : Values) (text : ℕ → List ℕ) (s : Stage K A T) (a c : Assembler D K A T) where
   pub stepped_result : KeepsAround a c → HasOneMoreName a.here c.here (a.taken - 1) → NamesOne a c → HasStepped says values text s a s c act.Result
   stepped_result kept name named g next at goes =
       let none_yet = unrooted g.standing.here act.Result g.standing.around next a.made.root goes.leads at.made.unrooted in
       let w = went_result says values text s.ctx.types a c g.built g.standing next (a.taken - 1) at.holds (result_goes g.standing.around next g.standing.here goes.leads) kept name in
-      (w.0, record { holds = w.1; made = result_made says values text g.start g.first s a c g.built g.standing next (a.taken - 1) g.tokens g.mentions at.made none_yet kept named goes.leads name })
+      (w.0, record { holds = w.1; made = result_made says values text g.start g.first s a c g.built g.standing next (a.taken - 1) g.names at.made none_yet kept named goes.leads name })
 
   pub stepped_argument : KeepsAround a c → HasBody a.here c.here a.here.body → c.here.content ≡ a.here.content → NamesOne a c → HasStepped says values text s a s c act.Argument
   stepped_argument kept here content named g next at goes =
       let none_yet = unrooted g.standing.here act.Argument g.standing.around next a.made.root goes.leads at.made.unrooted in
       let w = went_argument says values text s.ctx.types a c g.built g.standing next (a.taken - 1) at.holds (argument_goes g.standing.around next g.standing.here goes.leads) kept here in
-      (w.0, record { holds = w.1; made = argument_made says values text g.start g.first s a c g.built g.standing next (a.taken - 1) g.tokens g.mentions at.made none_yet kept named goes.leads here content })
+      (w.0, record { holds = w.1; made = argument_made says values text g.start g.first s a c g.built g.standing next (a.taken - 1) g.names at.made none_yet kept named goes.leads here content })
 
-  -- the operands that are open where one more is named
-  pub open_operands : (g : Progress K A T) (next : Standing) → IsAt says values text s a g → ActionIsInPlace text a act.Operand g next → (ks : Vec ℕ Global) × (a.here.body ≡ body.Operands ks)
-  open_operands g next at goes =
-      the_operands says values text s.ctx.types a c g.built g.standing next (a.taken - 1) at.holds (operand_goes g.standing.around next g.standing.here goes.leads).1
+  -- the operands that are open where one more is named, or those that an edge hands on
+  pub open_operands : (g : Progress K A T) (next : Standing) → IsAt says values text s a g → ActionIsInPlace text a act.Operand g next
+      → ((ks : Vec ℕ Global) × (a.here.body ≡ body.Operands ks)) ⊎ ((ks : Vec ℕ Global) × (a.here.body ≡ body.Successor ks))
+  open_operands g next at goes = elim (operand_goes g.standing.around next g.standing.here goes.leads).1 [
+    | inl e ↦ inl (the_operands says values text s.ctx.types a c g.built g.standing next (a.taken - 1) at.holds e)
+    | inr e ↦ inr (the_edge says values text s.ctx.types a c g.built g.standing next (a.taken - 1) at.holds e)
+  ]
 
   pub stepped_operand : KeepsAround a c → c.made ≡ a.made → ((ks : Vec ℕ Global) → a.here.body ≡ body.Operands ks
       → (ls : Vec ℕ Global) × (c.here ≡ record a.here { body = body.Operands ls }) × (ls.items ≡ ks.items ++ (a.taken - 1) ∷ []))
+      → ((ks : Vec ℕ Global) → a.here.body ≡ body.Successor ks
+      → (ls : Vec ℕ Global) × (c.here ≡ record a.here { body = body.Successor ls }) × (ls.items ≡ ks.items ++ (a.taken - 1) ∷ []))
       → HasStepped says values text s a s c act.Operand
-  stepped_operand kept made more g next at goes =
+  stepped_operand kept made more handed_on g next at goes =
       let none_yet = unrooted g.standing.here act.Operand g.standing.around next a.made.root goes.leads at.made.unrooted in
-      let ks = open_operands g next at goes in
-      let m = more ks.0 ks.1 in
-      let w = went_operand says values text s.ctx.types a c g.built g.standing next (a.taken - 1) at.holds (operand_goes g.standing.around next g.standing.here goes.leads) kept ks.0 m.0 ks.1 m.1 m.2 in
-      (w.0, record { holds = w.1; made = operand_made says values text g.start g.first s a c g.built g.standing next (a.taken - 1) g.tokens g.mentions at.made none_yet goes.leads kept made ks.0 m.0 ks.1 m.1 m.2 })
+      let along = operand_goes g.standing.around next g.standing.here goes.leads in
+      elim along.1 [
+        | inl e ↦
+            let ks = the_operands says values text s.ctx.types a c g.built g.standing next (a.taken - 1) at.holds e in
+            let m = more ks.0 ks.1 in
+            let w = went_operand says values text s.ctx.types a c g.built g.standing next (a.taken - 1) at.holds (along.0, e) kept ks.0 m.0 ks.1 m.1 m.2 in
+            (w.0, record { holds = w.1; made = operand_made says values text g.start g.first s a c g.built g.standing next (a.taken - 1) g.names at.made none_yet goes.leads kept made ks.0 m.0 ks.1 m.1 m.2 })
+        | inr e ↦
+            let ks = the_edge says values text s.ctx.types a c g.built g.standing next (a.taken - 1) at.holds e in
+            let m = handed_on ks.0 ks.1 in
+            let w = went_handed_on says values text s.ctx.types a c g.built g.standing next (a.taken - 1) at.holds (along.0, e) kept ks.0 m.0 ks.1 m.1 m.2 in
+            (w.0, record { holds = w.1; made = handed_on_made says values text g.start g.first s a c g.built g.standing next (a.taken - 1) g.names at.made none_yet goes.leads kept made ks.0 m.0 ks.1 m.1 m.2 })
+      ]
 
   -- ---- parts
 
@@ -140,7 +163,7 @@ module _ {D K A T : Type 0} (says : Saying K A T) (values : Values) (text : ℕ 
       let none_yet = unrooted g.standing.here act.Name g.standing.around next a.made.root goes.leads at.made.unrooted in
       let stays = name_stays g.standing.around next g.standing.here goes.leads in
       let w = went_name says values text s.ctx.types a c g.built g.standing next (a.taken - 1) at.holds (text (a.taken - 1)) id refl stays kept spelt put in
-      (w.0, record { holds = w.1; made = part_made says values text g.start g.first s a c g.built g.standing next (a.taken - 1) g.tokens g.mentions at.made none_yet act.Name neutral_name (sort_here g at) stays kept made put.body put.numbers })
+      (w.0, record { holds = w.1; made = part_made says values text g.start g.first s a c g.built g.standing next (a.taken - 1) g.names at.made none_yet act.Name neutral_name (sort_here g at) stays kept made put.body put.first put.numbers })
 
   pub stepped_number : KeepsAround a c → c.made ≡ a.made → (negative : Bool) (magnitude : ℕ) (n : Option Number) → number_in (text (a.taken - 1)) ≡ number negative magnitude → IsNumber n negative magnitude
       → HasPut a.here c.here a.here.body (part.Number n) (a.taken - 1) → HasStepped says values text s a s c act.Number
@@ -148,7 +171,7 @@ module _ {D K A T : Type 0} (says : Saying K A T) (values : Values) (text : ℕ 
       let none_yet = unrooted g.standing.here act.Number g.standing.around next a.made.root goes.leads at.made.unrooted in
       let stays = number_stays g.standing.around next g.standing.here goes.leads in
       let w = went_number says values text s.ctx.types a c g.built g.standing next (a.taken - 1) at.holds (text (a.taken - 1)) negative magnitude n refl stays kept says_it shown put in
-      (w.0, record { holds = w.1; made = part_made says values text g.start g.first s a c g.built g.standing next (a.taken - 1) g.tokens g.mentions at.made none_yet act.Number neutral_number (sort_here g at) stays kept made put.body put.numbers })
+      (w.0, record { holds = w.1; made = part_made says values text g.start g.first s a c g.built g.standing next (a.taken - 1) g.names at.made none_yet act.Number neutral_number (sort_here g at) stays kept made put.body put.first put.numbers })
 
   pub stepped_width : KeepsAround a c → c.made ≡ a.made → (sign : Signedness) (bits : ℕ) (n : Option ℕ) → width_in (text (a.taken - 1)) ≡ width sign bits → IsWidth n bits
       → HasPut a.here c.here a.here.body (part.Width sign n) (a.taken - 1) → HasStepped says values text s a s c act.Width
@@ -156,19 +179,19 @@ module _ {D K A T : Type 0} (says : Saying K A T) (values : Values) (text : ℕ 
       let none_yet = unrooted g.standing.here act.Width g.standing.around next a.made.root goes.leads at.made.unrooted in
       let stays = width_stays g.standing.around next g.standing.here goes.leads in
       let w = went_width says values text s.ctx.types a c g.built g.standing next (a.taken - 1) at.holds (text (a.taken - 1)) sign bits n refl stays kept says_it shown put in
-      (w.0, record { holds = w.1; made = part_made says values text g.start g.first s a c g.built g.standing next (a.taken - 1) g.tokens g.mentions at.made none_yet act.Width neutral_width (sort_here g at) stays kept made put.body put.numbers })
+      (w.0, record { holds = w.1; made = part_made says values text g.start g.first s a c g.built g.standing next (a.taken - 1) g.names at.made none_yet act.Width neutral_width (sort_here g at) stays kept made put.body put.first put.numbers })
 
   -- ---- what begins
 
-  pub stepped_operation : c.made ≡ a.made → (n : ℕ) (o : OpenOperation) → Begun a c (body.Operation o) → o.kind ≡ n → o.operands.items ≡ [] → o.regions.items ≡ []
+  pub stepped_operation : c.made ≡ a.made → (n : ℕ) (o : OpenOperation) → Begun a c (body.Operation o) → o.kind ≡ n → o.operands.items ≡ [] → o.labels.items ≡ [] → o.regions.items ≡ []
       → HasStepped says values text s a s c (act.Operation n)
-  stepped_operation made n o begun kind operands regions g next at goes =
+  stepped_operation made n o begun kind operands labels regions g next at goes =
       let none_yet = unrooted g.standing.here (act.Operation n) g.standing.around next a.made.root goes.leads at.made.unrooted in (
         refl,
         record {
           holds = begins says values text s.ctx.types a c g.built g.standing next (a.taken - 1) at.holds (act.Operation n) (body.Operation o)
               (moving.operation_begins g.standing.around next g.standing.here n goes.leads) begun.here begun.around (ap act.Operation (sym kind)) tt;
-          made = operation_begins says values text g.start g.first s a c g.built g.standing next g.tokens g.mentions at.made made none_yet n o goes.leads begun operands regions;
+          made = operation_begins says values text g.start g.first s a c g.built g.standing next g.names at.made made none_yet n o goes.leads begun operands labels regions;
         },
       )
 
@@ -179,7 +202,7 @@ module _ {D K A T : Type 0} (says : Saying K A T) (values : Values) (text : ℕ 
         record {
           holds = begins says values text s.ctx.types a c g.built g.standing next (a.taken - 1) at.holds act.BeginRegion (body.Region bs)
               (moving.region_begins g.standing.around next g.standing.here goes.leads) begun.here begun.around refl tt;
-          made = region_begins says values text g.start g.first s a c g.built g.standing next g.tokens g.mentions at.made made none_yet bs goes.leads begun empty;
+          made = region_begins says values text g.start g.first s a c g.built g.standing next g.names at.made made none_yet bs goes.leads begun empty;
         },
       )
 
@@ -190,7 +213,7 @@ module _ {D K A T : Type 0} (says : Saying K A T) (values : Values) (text : ℕ 
         record {
           holds = begins says values text s.ctx.types a c g.built g.standing next (a.taken - 1) at.holds act.Label (body.Block (record { block = None }))
               (moving.block_begins g.standing.around next g.standing.here goes.leads) begun.here begun.around refl tt;
-          made = block_begins says values text g.start g.first s a c g.built g.standing next g.tokens g.mentions at.made made none_yet goes.leads begun goes.spelt;
+          made = block_begins says values text g.start g.first s a c g.built g.standing next g.names at.made made none_yet goes.leads begun goes.spelt;
         },
       )
 
@@ -201,7 +224,18 @@ module _ {D K A T : Type 0} (says : Saying K A T) (values : Values) (text : ℕ 
         record {
           holds = begins says values text s.ctx.types a c g.built g.standing next (a.taken - 1) at.holds act.BeginOperands (body.Operands ks)
               (moving.operands_begin g.standing.around next g.standing.here goes.leads) begun.here begun.around refl empty;
-          made = operands_begin says values text g.start g.first s a c g.built g.standing next g.tokens g.mentions at.made made none_yet ks goes.leads begun empty;
+          made = operands_begin says values text g.start g.first s a c g.built g.standing next g.names at.made made none_yet ks goes.leads begun empty;
+        },
+      )
+
+  pub stepped_edge : c.made ≡ a.made → (ks : Vec ℕ Global) → Begun a c (body.Successor ks) → ks.items ≡ [] → HasStepped says values text s a s c act.BeginSuccessor
+  stepped_edge made ks begun empty g next at goes =
+      let none_yet = unrooted g.standing.here act.BeginSuccessor g.standing.around next a.made.root goes.leads at.made.unrooted in (
+        refl,
+        record {
+          holds = begins says values text s.ctx.types a c g.built g.standing next (a.taken - 1) at.holds act.BeginSuccessor (body.Successor ks)
+              (moving.edge_begins g.standing.around next g.standing.here goes.leads) begun.here begun.around refl empty;
+          made = edge_begins says values text g.start g.first s a c g.built g.standing next g.names at.made made none_yet ks goes.leads begun empty;
         },
       )
 
@@ -212,8 +246,8 @@ module _ {D K A T : Type 0} (says : Saying K A T) (values : Values) (text : ℕ 
         record {
           holds = begins says values text s.ctx.types a c g.built g.standing next (a.taken - 1) at.holds (act.BeginType n) (body.«Type» n)
               (moving.type_begins g.standing.around next g.standing.here n goes.leads) begun.here begun.around refl tt;
-          made = value_begins says values text g.start g.first s a c g.built g.standing next g.tokens g.mentions at.made made none_yet (act.BeginType n) (body.«Type» n) in_type
-              (type_enters g.standing.around next g.standing.here n goes.leads) begun refl refl tt;
+          made = value_begins says values text g.start g.first s a c g.built g.standing next g.names at.made made none_yet (act.BeginType n) (body.«Type» n) in_type
+              (type_enters g.standing.around next g.standing.here n goes.leads) begun refl refl refl refl tt;
         },
       )
 
@@ -224,8 +258,8 @@ module _ {D K A T : Type 0} (says : Saying K A T) (values : Values) (text : ℕ 
         record {
           holds = begins says values text s.ctx.types a c g.built g.standing next (a.taken - 1) at.holds (act.BeginAttribute n) (body.Attribute n)
               (moving.attribute_begins g.standing.around next g.standing.here n goes.leads) begun.here begun.around refl tt;
-          made = value_begins says values text g.start g.first s a c g.built g.standing next g.tokens g.mentions at.made made none_yet (act.BeginAttribute n) (body.Attribute n) in_attribute
-              (attribute_enters g.standing.around next g.standing.here n goes.leads) begun refl refl tt;
+          made = value_begins says values text g.start g.first s a c g.built g.standing next g.names at.made made none_yet (act.BeginAttribute n) (body.Attribute n) in_attribute
+              (attribute_enters g.standing.around next g.standing.here n goes.leads) begun refl refl refl refl tt;
         },
       )
 
@@ -236,8 +270,8 @@ module _ {D K A T : Type 0} (says : Saying K A T) (values : Values) (text : ℕ 
         record {
           holds = begins says values text s.ctx.types a c g.built g.standing next (a.taken - 1) at.holds act.BeginList (body.List ms)
               (moving.list_begins g.standing.around next g.standing.here goes.leads) begun.here begun.around refl empty;
-          made = value_begins says values text g.start g.first s a c g.built g.standing next g.tokens g.mentions at.made made none_yet act.BeginList (body.List ms) in_list
-              (list_enters g.standing.around next g.standing.here goes.leads) begun refl refl tt;
+          made = value_begins says values text g.start g.first s a c g.built g.standing next g.names at.made made none_yet act.BeginList (body.List ms) in_list
+              (list_enters g.standing.around next g.standing.here goes.leads) begun refl refl refl refl tt;
         },
       )
 
@@ -248,8 +282,8 @@ module _ {D K A T : Type 0} (says : Saying K A T) (values : Values) (text : ℕ 
         record {
           holds = begins says values text s.ctx.types a c g.built g.standing next (a.taken - 1) at.holds act.BeginItem body.Item
               (moving.item_begins g.standing.around next g.standing.here goes.leads) begun.here begun.around refl tt;
-          made = value_begins says values text g.start g.first s a c g.built g.standing next g.tokens g.mentions at.made made none_yet act.BeginItem body.Item in_item
-              (item_enters g.standing.around next g.standing.here goes.leads) begun refl refl tt;
+          made = value_begins says values text g.start g.first s a c g.built g.standing next g.names at.made made none_yet act.BeginItem body.Item in_item
+              (item_enters g.standing.around next g.standing.here goes.leads) begun refl refl refl refl tt;
         },
       )
 
@@ -265,10 +299,10 @@ module _ {D K A T : Type 0} (says : Saying K A T) (values : Values) (text : ℕ 
 
   pub can_header : AreKnownIn (length s.ctx.types) (types_in a.here.content.value.parts.items) × (is_identifier (text a.here.first) ≡ true)
   can_header = (
-    header_known says values text g.start g.first s a g.built g.standing g.tokens g.mentions at.made (header_at g.standing.around next g.standing.here leads).0 the_open.0 the_open.1,
-    header_spelt says values text g.start g.first s a g.built g.standing g.tokens g.mentions at.made (header_at g.standing.around next g.standing.here leads).0 the_open.0 the_open.1,
+    header_known says values text g.start g.first s a g.built g.standing g.names at.made (header_at g.standing.around next g.standing.here leads).0 the_open.0 the_open.1,
+    header_spelt says values text g.start g.first s a g.built g.standing g.names at.made (header_at g.standing.around next g.standing.here leads).0 the_open.0 the_open.1,
   )
 
-  pub header_is_full : 2 ^ 64 ≤ s.counter + length (types_in a.here.content.value.parts.items) → 2 ^ 64 ≤ g.first + length g.tokens
+  pub header_is_full : 2 ^ 64 ≤ s.counter + length (types_in a.here.content.value.parts.items) → 2 ^ 64 ≤ g.first + length g.names.definitions
   header_is_full long =
-      header_full says values text g.start g.first s a g.built g.standing g.tokens g.mentions at.made (header_at g.standing.around next g.standing.here leads).0 the_open.0 the_open.1 long
+      header_full says values text g.start g.first s a g.built g.standing g.names at.made (header_at g.standing.around next g.standing.here leads).0 the_open.0 the_open.1 long

@@ -30,12 +30,12 @@ use Rattle.ir_grammar.specs.Nesting.{Position, move}
 use Rattle.text_frames.specs.building.Kept.{KeepsKeys}
 use Rattle.text_frames.specs.Opened.{HasPut, HasOneMoreName, HasBody, IsFreshFrame}
 use Rattle.ir_formats.specs.Ordered.{Standing, moved_by, moved_out}
-use Rattle.text_frames.specs.Frames.{FrameSort, some_operands, a_region, a_block, a_list, an_item, sort_at, sort_of, EndsAt, Begins, IsEmpty, NamesResults, Contains, IsFrame, HasBegun, Stands, BeganSo}
+use Rattle.text_frames.specs.Frames.{FrameSort, some_operands, an_edge, a_region, a_block, a_list, an_item, sort_at, sort_of, EndsAt, Begins, IsEmpty, NamesResults, Contains, IsFrame, HasBegun, Stands, BeganSo}
 use Rattle.text_assembling.specs.Assembling.{Holds, KeepsAround}
 use Rattle.ir_forest.proofs.PiecesBehind.{tokens_behind}
 use Rattle.text_frames.proofs.Framing.{stands_later, stands_at, stands_with, innermost, frame_put, fresh_frame}
-use Rattle.text_frames.proofs.Ended.{Hollow, hollow_names, frame_hollow, began_same, began_other, is_block, is_operands, no_fault}
-use Rattle.text_frames.proofs.Moving.{GoesIn, GoesTo, Stays, operation_out, region_out, block_out, type_out, attribute_out, operands_out, item_out, list_out}
+use Rattle.text_frames.proofs.Ended.{Hollow, hollow_names, frame_hollow, began_same, began_other, is_block, is_operands, is_edge, no_fault}
+use Rattle.text_frames.proofs.Moving.{GoesIn, GoesTo, Stays, operation_out, region_out, block_out, type_out, attribute_out, operands_out, edge_out, item_out, list_out}
 
 -- what an action at a token leads to: no fault, and what is open holds what is built
 abbrev pub Goes : {D K A T : Type 0} → Saying K A T → Values → (ℕ → List ℕ) → List T → Assembler D K A T → Built → Action → ℕ → Standing → Type 0
@@ -160,6 +160,26 @@ module _ {D K A T : Type 0} (says : Saying K A T) (values : Values) (text : ℕ 
             })),
       )
 
+  -- the same of an operand that an edge hands on
+  pub the_edge : sort_at s.here ≡ an_edge → (ks : Vec ℕ Global) × (a.here.body ≡ body.Successor ks)
+  the_edge e = is_edge a.here.body (frame.sort ∙ e)
+
+  pub went_handed_on : GoesTo s.here s.around next × (sort_at s.here ≡ an_edge) → KeepsAround a c → (ks ls : Vec ℕ Global) → a.here.body ≡ body.Successor ks
+      → c.here ≡ record a.here { body = body.Successor ls } → ls.items ≡ ks.items ++ k ∷ [] → Goes says values text types c b act.Operand k next
+  went_handed_on goes kept ks ls is new items =
+      let more : Trees ActionSpan = behind b.here (node (lone act.Operand k) no_tree) in
+      let old : ks.items ≡ tokens_in b.here = subst (λ (x : Body D K A T). Contains says values text types x a.here.content.value b.here) is frame.contains in
+      let sorts : an_edge ≡ sort_at goes.0.to = sym (goes.0.stays ∙ goes.1) in (
+        refl,
+        leaf types (λ i key h. h) act.Operand goes.0 kept
+            (began_other a.here c.here (body.Successor ks) (body.Successor ls) is (ap (λ (x : opened.Open D K A T). x.body) new) (λ x h. h) refl (ap (λ (x : opened.Open D K A T). x.first) new))
+            (subst (λ (x : opened.Open D K A T). IsFrame says values text types x goes.0.to more) (sym new) (record {
+              sort = sorts;
+              contains = items ∙ (ap (λ (xs : List ℕ). xs ++ k ∷ []) old ∙ sym (tokens_behind b.here (lone act.Operand k) no_tree));
+              named = subst (λ (x : FrameSort). NamesResults x a.here.names.items more) sorts tt;
+            })),
+      )
+
 -- ---- ends that refuse nothing
 
 -- only types, attributes and operations are refused
@@ -167,6 +187,7 @@ abbrev pub Silent : FrameSort → Type 0
 Silent a_block = Unit {0}
 Silent a_region = Unit {0}
 Silent some_operands = Unit {0}
+Silent an_edge = Unit {0}
 Silent a_list = Unit {0}
 Silent an_item = Unit {0}
 Silent _ = ⊥
@@ -180,6 +201,7 @@ module _ {D K A T : Type 0} (values : Values) (text : ℕ → List ℕ) (o : bui
   silent_end body.Item h e = no_fault values text o ts k act.BeginItem e refl refl
   silent_end (body.Operation p) h e = absurd h
   silent_end (body.Operands ks) h e = no_fault values text o ts k act.BeginOperands e refl refl
+  silent_end (body.Successor ks) h e = no_fault values text o ts k act.BeginSuccessor e refl refl
   silent_end (body.Region bs) h e = no_fault values text o ts k act.BeginRegion e refl refl
   silent_end (body.Block p) h e = no_fault values text o ts k act.Label e refl refl
 
@@ -214,7 +236,7 @@ any_ok (Err e) h = tt
 
 -- the action ends something
 abbrev pub IsAnEnd : Action → Type 0
-IsAnEnd x = (x ≡ act.EndOperation) ⊎ ((x ≡ act.EndRegion) ⊎ ((x ≡ act.EndBlock) ⊎ ((x ≡ act.EndType) ⊎ ((x ≡ act.EndAttribute) ⊎ ((x ≡ act.EndOperands) ⊎ ((x ≡ act.EndItem) ⊎ (x ≡ act.EndList)))))))
+IsAnEnd x = (x ≡ act.EndOperation) ⊎ ((x ≡ act.EndRegion) ⊎ ((x ≡ act.EndBlock) ⊎ ((x ≡ act.EndType) ⊎ ((x ≡ act.EndAttribute) ⊎ ((x ≡ act.EndOperands) ⊎ ((x ≡ act.EndItem) ⊎ ((x ≡ act.EndList) ⊎ (x ≡ act.EndSuccessor))))))))
 
 module _ {D K A T : Type 0} (says : Saying K A T) (values : Values) (text : ℕ → List ℕ) (types : List T) (c : Assembler D K A T) (b : Built) (s next : Standing) (k : ℕ) (r : Result (Unit {0}) AssemblyFault) where
   pub ends_went : (x : Action) → IsAnEnd x → moved_by (move s.here x) s.around ≡ Some next
@@ -227,7 +249,8 @@ module _ {D K A T : Type 0} (says : Saying K A T) (values : Values) (text : ℕ 
   ends_went x (inr (inr (inr (inr (inl e))))) m h = went says values text types c b k next r x act.EndAttribute e (h (attribute_out s.around next s.here (at_action s next x act.EndAttribute e m)).0)
   ends_went x (inr (inr (inr (inr (inr (inl e)))))) m h = went says values text types c b k next r x act.EndOperands e (on_ok_weaker r (λ (w : (fault_at_end values text b.here b.around k ≡ None) × Holds says values text types c (with_end b.here b.around k) next). (refl, w.1)) (h (operands_out s.around next s.here (at_action s next x act.EndOperands e m)).0))
   ends_went x (inr (inr (inr (inr (inr (inr (inl e))))))) m h = went says values text types c b k next r x act.EndItem e (on_ok_weaker r (λ (w : (fault_at_end values text b.here b.around k ≡ None) × Holds says values text types c (with_end b.here b.around k) next). (refl, w.1)) (h (item_out s.around next s.here (at_action s next x act.EndItem e m)).0))
-  ends_went x (inr (inr (inr (inr (inr (inr (inr e))))))) m h = went says values text types c b k next r x act.EndList e (on_ok_weaker r (λ (w : (fault_at_end values text b.here b.around k ≡ None) × Holds says values text types c (with_end b.here b.around k) next). (refl, w.1)) (h (list_out s.around next s.here (at_action s next x act.EndList e m)).0))
+  ends_went x (inr (inr (inr (inr (inr (inr (inr (inl e)))))))) m h = went says values text types c b k next r x act.EndList e (on_ok_weaker r (λ (w : (fault_at_end values text b.here b.around k ≡ None) × Holds says values text types c (with_end b.here b.around k) next). (refl, w.1)) (h (list_out s.around next s.here (at_action s next x act.EndList e m)).0))
+  ends_went x (inr (inr (inr (inr (inr (inr (inr (inr e)))))))) m h = went says values text types c b k next r x act.EndSuccessor e (on_ok_weaker r (λ (w : (fault_at_end values text b.here b.around k ≡ None) × Holds says values text types c (with_end b.here b.around k) next). (refl, w.1)) (h (edge_out s.around next s.here (at_action s next x act.EndSuccessor e m)).0))
 
 module _ {D K A T : Type 0} (says : Saying K A T) (values : Values) (text : ℕ → List ℕ) (types : List T) (a : Assembler D K A T) (b : Built) (s next : Standing) (k : ℕ)
     (holds : Holds says values text types a b s) (f : Fault) where
@@ -246,4 +269,5 @@ module _ {D K A T : Type 0} (says : Saying K A T) (values : Values) (text : ℕ 
   end_refused x (inr (inr (inr (inr (inl e))))) m h = faulty x act.EndAttribute e (h (attribute_out s.around next s.here (at_action s next x act.EndAttribute e m)).0)
   end_refused x (inr (inr (inr (inr (inr (inl e)))))) m h = faulty x act.EndOperands e (let out = operands_out s.around next s.here (at_action s next x act.EndOperands e m) in none_is_refused (subst Silent (sym out.1) tt) (h out.0))
   end_refused x (inr (inr (inr (inr (inr (inr (inl e))))))) m h = faulty x act.EndItem e (let out = item_out s.around next s.here (at_action s next x act.EndItem e m) in none_is_refused (subst Silent (sym out.1) tt) (h out.0))
-  end_refused x (inr (inr (inr (inr (inr (inr (inr e))))))) m h = faulty x act.EndList e (let out = list_out s.around next s.here (at_action s next x act.EndList e m) in none_is_refused (subst Silent (sym out.1) tt) (h out.0))
+  end_refused x (inr (inr (inr (inr (inr (inr (inr (inl e)))))))) m h = faulty x act.EndList e (let out = list_out s.around next s.here (at_action s next x act.EndList e m) in none_is_refused (subst Silent (sym out.1) tt) (h out.0))
+  end_refused x (inr (inr (inr (inr (inr (inr (inr (inr e)))))))) m h = faulty x act.EndSuccessor e (let out = edge_out s.around next s.here (at_action s next x act.EndSuccessor e m) in none_is_refused (subst Silent (sym out.1) tt) (h out.0))

@@ -17,14 +17,14 @@ use Rattle.ir_forest.specs.Building.{Built}
 use Rattle.ir_formats.specs.Ordered.{Standing}
 use Rattle.ir_grammar.specs.Nesting.{Position, at_end}
 use Rattle.text_dialect.specs.Seen.{Seen, seen}
-use Rattle.text_frames.specs.building.Loose.{IsDefinedValue}
+use Rattle.text_frames.specs.building.Loose.{IsDefinedValue, IsDefinedBlock}
 use Rattle.text_frames.specs.declared.opened.Body.{Body}
 use Rattle.text_frames.specs.declared.opened.Body.TheVariants as body
 use Rattle.text_frames.specs.declared.opened.Open.{Open}
 use Rattle.text_frames.specs.Frames.{Stands}
 use Rattle.text_frames.specs.Opened.{IsFreshFrame}
 use Rattle.text_frames.specs.Raised.{HoldsAllNew, RaisesAll, AreWaiting, block_nodes, blocks_of_body}
-use Rattle.text_frames.specs.Worlds.{Rises, PartialModule}
+use Rattle.text_frames.specs.Worlds.{Rises, NameTokens, PartialModule}
 use Rattle.text_assembling.specs.declared.assembling.Assembler.{Assembler}
 
 -- ---- a context
@@ -64,6 +64,7 @@ module _ {D K A T : Type 0} where
   pub record NamesOne (a c : Assembler D K A T) : Type 0 where
     pub numbers : c.here.numbers.items ≡ a.here.numbers.items ++ length a.made.values.items ∷ []
     pub values : c.made.values.items ≡ a.made.values.items ++ None ∷ []
+    pub blocks : c.made.blocks ≡ a.made.blocks
     pub pending : c.made.pending ≡ a.made.pending
     pub root : c.made.root ≡ a.made.root
     pub loose : c.made.loose ≡ a.made.loose
@@ -74,6 +75,11 @@ module _ {D K A T : Type 0} where
 abbrev pub root_nodes : Option (Ptr Operation) → List IRNode
 root_nodes None = []
 root_nodes (Some p) = OperationNode p ∷ []
+
+-- the label at a token, where its block isn't made
+abbrev pub unmade_block : Option (Ptr BasicBlock) → ℕ → List ℕ
+unmade_block None k = k ∷ []
+unmade_block (Some b) k = []
 
 -- no root is made before the end
 abbrev pub IsUnrooted : Position → Option (Ptr Operation) → Type 0
@@ -93,13 +99,22 @@ module _ {D K A T : Type 0} where
   abbrev pub blocks_of : Assembler D K A T → List (Ptr BasicBlock)
   blocks_of a = joined (map (λ f. blocks_of_body f.body) (all_open a))
 
-  -- what has been made so far, these tokens naming the definitions, and these mentioning values
-  abbrev pub world_of : Stage K A T → Assembler D K A T → List ℕ → List ℕ → PartialModule K A T
-  world_of s a tokens mentions = record {
+  -- the label of a block whose header isn't read
+  abbrev pub unmade_label : Body D K A T → ℕ → List ℕ
+  unmade_label (body.Block b) k = unmade_block b.block k
+  unmade_label _ k = []
+
+  -- the labels of the blocks that are begun and not made
+  abbrev pub unmade_labels : List (Open D K A T) → List ℕ
+  unmade_labels fs = joined (map (λ f. unmade_label f.body f.first) fs)
+
+  -- what has been made so far, these names having been read
+  abbrev pub world_of : Stage K A T → Assembler D K A T → NameTokens → PartialModule K A T
+  world_of s a names = record {
     ctx = s.ctx;
     values = a.made.values.items;
-    tokens = tokens;
-    mentions = mentions;
+    blocks = a.made.blocks.items;
+    names = names;
     pending = a.made.pending.items;
   }
 
@@ -117,18 +132,25 @@ module _ {D K A T : Type 0} where
         → IsDefinedValue s.ctx v × (v.number < s.counter)
     pub counted : s.counter + length (numbers_of a) ≡ counter + length a.made.values.items
 
+  -- The blocks: each label but those of blocks that are begun and not made has one, in the order of the text, and it is there.
+  pub record AreLabelled (s : Stage K A T) (a : Assembler D K A T) (labels : List ℕ) : Type 0 where
+    pub made : List ℕ
+    pub all : labels ≡ made ++ unmade_labels (all_open a)
+    pub many : length made ≡ length a.made.blocks.items
+    pub there : (n : ℕ) (b : Ptr BasicBlock) → slice_get a.made.blocks.items n ≡ Some b → IsDefinedBlock s.ctx b
+
 -- All that has been made of what is built, since a start, at which the next value had this number. What has come since
 -- is inside the blocks that are in no region yet, and the root.
 pub record HasMade {D K A T : Type 0} (says : Saying K A T) (values : Values) (text : ℕ → List ℕ) (start : Seen K A T)
-    (counter : ℕ) (s : Stage K A T) (a : Assembler D K A T) (b : Built) (here : Standing) (tokens mentions : List ℕ) :
-    Type 0 where
-  pub frames : RaisesAll says values text (world_of s a tokens mentions) a.made.root a.here here.here b.here
+    (counter : ℕ) (s : Stage K A T) (a : Assembler D K A T) (b : Built) (here : Standing) (names : NameTokens) : Type 0 where
+  pub frames : RaisesAll says values text (world_of s a names) a.made.root a.here here.here b.here
       (reverse a.around.items) b.around here.around
   pub held : HoldsAllNew start s.ctx a.made.loose.items
   pub stack : a.made.loose.items ≡ block_nodes (blocks_of a) ++ root_nodes a.made.root
   pub unrooted : IsUnrooted here.here a.made.root
-  pub definitions : AreSettled s a tokens counter
-  pub operands : AreWaiting start s.ctx a.made.pending.items mentions
+  pub definitions : AreSettled s a names.definitions counter
+  pub blocks : AreLabelled s a names.labels
+  pub operands : AreWaiting start s.ctx a.made.pending.items names
 
 -- nothing was read yet
 pub record HasReadNothing {D K A T : Type 0} (a : Assembler D K A T) : Type 0 where
@@ -137,5 +159,6 @@ pub record HasReadNothing {D K A T : Type 0} (a : Assembler D K A T) : Type 0 wh
   pub taken : a.taken ≡ 0
   pub root : a.made.root ≡ None
   pub values : a.made.values.items ≡ []
+  pub blocks : a.made.blocks.items ≡ []
   pub pending : a.made.pending.items ≡ []
   pub loose : a.made.loose.items ≡ []

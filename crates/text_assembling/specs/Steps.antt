@@ -24,7 +24,6 @@ use Rattle.ir_formats.specs.Ordered.{Standing, moved_by, moved_out}
 use Rattle.ir_grammar.specs.Nesting.{move}
 use Rattle.ir_grammar.specs.declared.grammar.Action.{Action}
 use Rattle.ir_tokens.specs.declared.faults.Fault.{Fault}
-use Rattle.ir_scopes.specs.Naming.{defined_by, mentioned_by}
 use Rattle.text_dialect.specs.Seen.{Seen, seen}
 use Rattle.text_frames.specs.building.Inside.{IsSeenForest}
 use Rattle.text_frames.specs.building.Kept.{SameSeen}
@@ -35,22 +34,21 @@ use Rattle.text_frames.specs.declared.opened.Body.TheVariants as body
 use Rattle.text_frames.specs.declared.opened.Open.{Open}
 use Rattle.text_frames.specs.declared.opened.OpenOperation.{OpenOperation}
 use Rattle.text_frames.specs.Makes.{types_in, block_in}
-use Rattle.text_frames.specs.Raised.{MayEnd, block_nodes}
-use Rattle.text_frames.specs.Worlds.{set_all, values_alone}
+use Rattle.text_frames.specs.Raised.{MayEnd, block_nodes, names_after}
+use Rattle.text_frames.specs.Worlds.{NameTokens, set_all, values_alone}
 use Rattle.text_assembling.specs.declared.assembling.Assembler.{Assembler}
 use Rattle.text_assembling.specs.Assembling.{Holds, HasMade, Stage, stage}
 
 -- ---- where reading has come to
 
 -- What was at the start, and the number that the next value had then; the trees that are built, and where reading
--- stands; the tokens that name definitions, and those that mention values.
+-- stands; and the names that were read.
 pub record Progress (K A T : Type 0) : Type 0 where
   pub start : Seen K A T
   pub first : ℕ
   pub built : Built
   pub standing : Standing
-  pub tokens : List ℕ
-  pub mentions : List ℕ
+  pub names : NameTokens
 
 module _ {K A T : Type 0} where
   -- after an action at a token, which leads on to another standing
@@ -60,8 +58,7 @@ module _ {K A T : Type 0} where
     first = g.first;
     built = after g.built x k;
     standing = next;
-    tokens = g.tokens ++ defined_by x k;
-    mentions = g.mentions ++ mentioned_by x k;
+    names = names_after g.names x k;
   }
 
   -- after what is open innermost has ended at a token
@@ -84,7 +81,7 @@ module _ {D K A T : Type 0} (says : Saying K A T) (values : Values) (text : ℕ 
   -- what is open holds what is built, and what is built has been made
   pub record IsAt (s : Stage K A T) (a : Assembler D K A T) (g : Progress K A T) : Type 0 where
     pub holds : Holds says values text s.ctx.types a g.built g.standing
-    pub made : HasMade says values text g.start g.first s a g.built g.standing g.tokens g.mentions
+    pub made : HasMade says values text g.start g.first s a g.built g.standing g.names
 
   -- the action may come now
   pub record CanStep (s : Stage K A T) (a : Assembler D K A T) (x : Action) : Type 0 where
@@ -144,6 +141,7 @@ module _ {D K A T : Type 0} where
         → c.made.values.items ≡ set_all a.here.numbers.items
         (values_alone (numbered_values (ByBlock block) s.counter (types_in a.here.content.value.parts.items)))
         a.made.values.items
+    pub blocks : c.made.blocks.items ≡ a.made.blocks.items ++ block ∷ []
     pub pending : c.made.pending ≡ a.made.pending
     pub root : c.made.root ≡ a.made.root
     pub loose : c.made.loose.items ≡ a.made.loose.items ++ BlockNode block ∷ []
@@ -181,7 +179,9 @@ module _ {D K A T : Type 0} where
         → c.made.values.items ≡ set_all a.here.numbers.items
         (values_alone (numbered_values (ByOp op) s.counter result_types)) a.made.values.items
     pub numbers : c.here.numbers.items ≡ []
-    pub pending : c.made.pending.items ≡ a.made.pending.items ++ record { op = op; tokens = ended.operands.items } ∷ []
+    pub blocks : c.made.blocks ≡ a.made.blocks
+    pub pending : c.made.pending.items ≡ a.made.pending.items
+        ++ record { op = op; tokens = ended.operands.items; labels = ended.labels.items } ∷ []
     pub root : a.here.body ≡ body.Text → c.made.root ≡ Some op
     pub root_stays : (b : Ptr BasicBlock) → block_in a.here.body ≡ Some b → c.made.root ≡ a.made.root
     pub loose : (xs : List IRNode)
@@ -225,7 +225,7 @@ module _ {D TypeKind AttrKind TypeBody Saved Location OpKind Attr TypeKey : Type
     pub record LacksNumbers (c : ContextOf D TypeKind AttrKind TypeBody Saved Location OpKind Attr TypeKey)
         (a : Assembler D OpKind Attr TypeKey) (x : Action) : Type 0 where
       pub fills : (g : Progress OpKind Attr TypeKey) (next : Standing) → IsAt says values text (stage c) a g
-          → ActionIsInPlace text a x g next → 2 ^ 64 ≤ g.first + length g.tokens
+          → ActionIsInPlace text a x g next → 2 ^ 64 ≤ g.first + length g.names.definitions
 
   -- nothing but types has been made, and the loose things are what they were
   pub record UndoesStep (c d : ContextOf D TypeKind AttrKind TypeBody Saved Location OpKind Attr TypeKey)

@@ -53,6 +53,7 @@ impl<D: TextDialect> Assembler<D> {
             Action::Width => self.width(source.text(self.last())),
             Action::BeginOperands => self.begin_operands(spares),
             Action::Operand => self.operand(),
+            Action::BeginSuccessor => self.begin_successor(spares),
             Action::BeginList => self.begin_list(spares),
             Action::BeginItem => self.begin_item(spares),
             Action::EndOperation
@@ -62,7 +63,8 @@ impl<D: TextDialect> Assembler<D> {
             | Action::EndAttribute
             | Action::EndOperands
             | Action::EndItem
-            | Action::EndList => self.end(ctx, spares),
+            | Action::EndList
+            | Action::EndSuccessor => self.end(ctx, spares),
         }
     }
 }

@@ -1,8 +1,8 @@
 //! One pass over what reading did, which puts the operations of a text into a context as they are read.
 //!
 //! What was begun waits around what is being read, the innermost last. Types and attributes are made at their ends,
-//! a block at the end of its header, and an operation with its regions at its end. Operands may be defined further on,
-//! so they are linked once all operations are made.
+//! a block at the end of its header, and an operation with its regions at its end. Operands and the blocks to which edges
+//! lead may be defined further on, so they are linked once all operations are made.
 ghost use Rattle.std.specs.Prelude.{◌≡◌, ◌-◌, ◌+◌, ◌^◌, ◌≤◌, ◌<◌, length, slice_get, [], Some, None, Err, OnErr, OnOk, IfOk};
 ghost use Rattle.ir_forest.specs.Building.{first_refusal};
 ghost use Rattle.ir_forest.specs.Identifiers.{AreSpelt};
@@ -47,10 +47,12 @@ pub struct Assembler<D: Dialects> {
     pub made: Assembly,
     /// The operands of the operation that ended last, whose memory serves again.
     pub spare_operands: Vec<usize>,
+    /// So it is of the labels of its edges.
+    pub spare_labels: Vec<usize>,
 }
 
 impl<D: TextDialect> Assembler<D> {
-    /// Nothing is read yet. There is room for the values and the operands of so much.
+    /// Nothing is read yet. There is room for the values, the blocks, the operands and the edges of so much.
     fn with_room(alloc: Global, room: Room) -> Result<Self, AllocError>
         ensures { IfOk result HasReadNothing }
     {
@@ -63,10 +65,17 @@ impl<D: TextDialect> Assembler<D> {
             made: Assembly {
                 root: None,
                 values: Vec::with_capacity(alloc, room.values)?,
-                pending: WaitingOperands::with_capacity(alloc, room.operations, room.operands)?,
+                blocks: Vec::with_capacity(alloc, room.blocks)?,
+                pending: WaitingOperands::with_capacity(
+                    alloc,
+                    room.operations,
+                    room.operands,
+                    room.successors,
+                )?,
                 loose: Vec::new(alloc),
             },
             spare_operands: Vec::new(alloc),
+            spare_labels: Vec::new(alloc),
         })
     }
 
@@ -117,8 +126,8 @@ impl<D: TextDialect> Assembler<D> {
     }
 }
 
-/// Puts the operation of a text into a context, of which reading did this, but for operands. The root stands in no
-/// block. Room for so much is asked for ahead, so that no table of the context is copied as it grows.
+/// Puts the operation of a text into a context, of which reading did this, but for operands and successors. The root stands
+/// in no block. Room for so much is asked for ahead, so that no table of the context is copied as it grows.
 ///
 /// # Errors
 /// The first value of the text that is refused; `Memory`; and `CounterFull` where the text defines more values than

@@ -54,23 +54,26 @@ impl<D: TextDialect> Assembler<D> {
         Ok(())
     }
 
-    /// An operation of the kind with this number begins, with no operand and no region yet.
+    /// An operation of the kind with this number begins, with no operand, no edge and no region yet.
     pub fn begin_operation(
         &mut self,
         spares: &mut Vec<Box<Content<D>>>,
         kind: u8,
     ) -> Result<(), AssemblyFault>
         ensures begun { OnOk result ((o : OpenOperation) × Begun self.old self.new (body.Operation o)
-            × (o.kind ≡ kind) × (o.operands.items ≡ []) × (o.regions.items ≡ [])) }
+            × (o.kind ≡ kind) × (o.operands.items ≡ []) × (o.labels.items ≡ []) × (o.regions.items ≡ [])) }
         ensures made { self.new.made ≡ self.old.made }
         ensures taken { self.new.taken ≡ self.old.taken }
         ensures memory { IfErr result (λ e. e ≡ Memory) }
     {
         let mut operands = std::mem::replace(&mut self.spare_operands, Vec::new(self.alloc));
         operands.clear();
+        let mut labels = std::mem::replace(&mut self.spare_labels, Vec::new(self.alloc));
+        labels.clear();
         let body = Body::Operation(OpenOperation {
             kind,
             operands,
+            labels,
             regions: Vec::new(self.alloc),
         });
         self.begin(spares, body)
@@ -151,6 +154,25 @@ impl<D: TextDialect> Assembler<D> {
         Ok(())
     }
 
+    /// An edge begins at the token of its label, with no operand yet.
+    pub fn begin_successor(
+        &mut self,
+        spares: &mut Vec<Box<Content<D>>>,
+    ) -> Result<(), AssemblyFault>
+        ensures begun { OnOk result ((ks : Vec ℕ Global)
+            × Begun self.old self.new (body.Successor ks) × (ks.items ≡ [])) }
+        ensures taken { self.new.taken ≡ self.old.taken }
+        ensures made { self.new.made ≡ self.old.made }
+        ensures memory { IfErr result (λ e. e ≡ Memory) }
+    {
+        self.begin(spares, Body::Successor(Vec::new(self.alloc)))?;
+        // An edge has no parts, so the memory for the tokens of parts serves for those of its operands.
+        if let Body::Successor(tokens) = &mut self.here.body {
+            std::mem::swap(tokens, &mut self.here.content.tokens);
+        }
+        Ok(())
+    }
+
     /// A region begins, with no block yet.
     pub fn begin_region(&mut self, spares: &mut Vec<Box<Content<D>>>) -> Result<(), AssemblyFault>
         ensures begun { OnOk result ((bs : Vec (Ptr BasicBlock) Global)
@@ -203,18 +225,23 @@ impl<D: TextDialect> Assembler<D> {
         self.name_definition()
     }
 
-    /// The last token names an operand.
+    /// The last token names an operand, that of an operation or one that an edge hands on.
     pub fn operand(&mut self) -> Result<(), AssemblyFault>
         ensures here { (ks : Vec ℕ Global) → self.old.here.body ≡ body.Operands ks → OnOk result ((ls : Vec ℕ Global)
             × (self.new.here ≡ record self.old.here { body = body.Operands ls })
+            × (ls.items ≡ ks.items ++ (self.old.taken - 1) ∷ [])) }
+        ensures handed_on { (ks : Vec ℕ Global) → self.old.here.body ≡ body.Successor ks
+            → OnOk result ((ls : Vec ℕ Global) × (self.new.here ≡ record self.old.here { body = body.Successor ls })
             × (ls.items ≡ ks.items ++ (self.old.taken - 1) ∷ [])) }
         ensures made { self.new.made ≡ self.old.made }
         ensures around { KeepsAround self.old self.new }
         ensures memory { IfErr result (λ e. e ≡ Memory) }
     {
         let token = self.last();
-        if let Body::Operands(tokens) = &mut self.here.body {
-            tokens.push(token)?;
+        match &mut self.here.body {
+            Body::Operands(tokens) => tokens.push(token)?,
+            Body::Successor(tokens) => tokens.push(token)?,
+            _ => {}
         }
         Ok(())
     }

@@ -46,11 +46,11 @@ impl<D: TextDialect> Assembler<D> {
             (g : Progress D.OpKind D.Attr D.TypeKey) (next : Standing)
             → IsWithout whole ended self.old → IsAt D.says D.values text (stage ctx.old) whole g → MayGoOut g next
             → OnOk result (HasMade D.says D.values text g.start g.first (stage ctx.new) self.new
-            (with_end g.built.here g.built.around (self.old.taken - 1)) next g.tokens g.mentions) }
+            (with_end g.built.here g.built.around (self.old.taken - 1)) next g.names) }
         ensures full { (whole : Assembler D D.OpKind D.Attr D.TypeKey) (text : ℕ → List ℕ)
             (g : Progress D.OpKind D.Attr D.TypeKey) (next : Standing)
             → IsWithout whole ended self.old → IsAt D.says D.values text (stage ctx.old) whole g → MayGoOut g next
-            → result ≡ Err CounterFull → 2 ^ 64 ≤ g.first + length g.tokens }
+            → result ≡ Err CounterFull → 2 ^ 64 ≤ g.first + length g.names.definitions }
         ensures undone { OnErr result (IsUndone (seen ctx.old) (seen ctx.new) self.old self.new) }
         ensures around { KeepsAround self.old self.new }
         ensures types { KeepsTypes ctx.old.types ctx.new.types }
@@ -94,6 +94,11 @@ impl<D: TextDialect> Assembler<D> {
                 keep(spares, content);
                 made
             }
+            Body::Successor(tokens) => {
+                let made = self.end_successor(first, tokens, &mut content);
+                keep(spares, content);
+                made
+            }
             Body::Region(blocks) => {
                 keep(spares, content);
                 self.end_region(first, blocks)
@@ -119,7 +124,7 @@ impl<D: TextDialect> Assembler<D> {
             → fault_at_end D.values text g.built.here g.built.around (self.old.taken - 1) ≡ Some f }
         ensures full { (text : ℕ → List ℕ) (g : Progress D.OpKind D.Attr D.TypeKey) (next : Standing)
             → IsAt D.says D.values text (stage ctx.old) self.old g → MayGoOut g next
-            → result ≡ Err CounterFull → 2 ^ 64 ≤ g.first + length g.tokens }
+            → result ≡ Err CounterFull → 2 ^ 64 ≤ g.first + length g.names.definitions }
         ensures undone { OnErr result (IsUndone (seen ctx.old) (seen ctx.new) self.old self.new) }
         ensures taken { self.new.taken ≡ self.old.taken }
         ensures erased { KeepsErased ctx.old.program ctx.new.program }

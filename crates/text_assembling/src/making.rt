@@ -69,9 +69,11 @@ impl<D: TextDialect> Assembler<D> {
         let label = label_of(self.alloc, source.text(self.here.first))?;
         let types = types_of(self.alloc, &self.here.content.parts)?;
         self.made.loose.reserve(1)?;
+        self.made.blocks.reserve(1)?;
         let block = open_block(self.alloc, ctx, label, &types)?;
         define_arguments(ctx, block, &self.here.numbers, &mut self.made.values);
         self.made.loose.push_reserved(IRNode::BasicBlock(block));
+        self.made.blocks.push_reserved(block);
         self.here.numbers.clear();
         self.here.content.clear();
         self.here.body = Body::Block(OpenBlock { block: Some(block) });
@@ -109,6 +111,7 @@ impl<D: TextDialect> Assembler<D> {
         ensures here { HasBody self.old.here self.new.here self.old.here.body }
         ensures numbers { self.new.here.numbers.items ≡ [] }
         ensures values { self.new.made.values ≡ self.old.made.values }
+        ensures labelled { self.new.made.blocks ≡ self.old.made.blocks }
         ensures pending { self.new.made.pending ≡ self.old.made.pending }
         ensures around { KeepsAround self.old self.new }
         ensures root { self.old.here.body ≡ body.Text → self.new.made.root ≡ Some op }
@@ -178,7 +181,9 @@ impl<D: TextDialect> Assembler<D> {
             attributes,
         } = draft;
         self.compare_names(first, result_types.len())?;
-        self.made.pending.reserve(ended.operands.len())?;
+        self.made
+            .pending
+            .reserve(ended.operands.len(), ended.labels.len())?;
         self.made.loose.reserve(1)?;
         know_seen(ctx);
         let op = make_operation(
@@ -191,8 +196,11 @@ impl<D: TextDialect> Assembler<D> {
         )?;
         define_results(ctx, op, &self.here.numbers, &mut self.made.values);
         take_off(&mut self.made.loose, &ended.regions);
-        self.made.pending.push_reserved(op, &ended.operands);
+        self.made
+            .pending
+            .push_reserved(op, &ended.operands, &ended.labels);
         self.spare_operands = ended.operands;
+        self.spare_labels = ended.labels;
         self.attach(ctx, op);
         Ok(())
     }

@@ -135,7 +135,8 @@ impl<D: TextDialect> Assembler<D> {
         ensures here { (o : OpenOperation) → self.old.here.body ≡ body.Operation o
             → OnOk result ((p : OpenOperation)
             × HasPut self.old.here self.new.here (body.Operation p) (part.Operands (length tokens.items)) first
-            × (p.kind ≡ o.kind) × (p.regions ≡ o.regions) × (p.operands.items ≡ o.operands.items ++ tokens.items)) }
+            × (p.kind ≡ o.kind) × (p.regions ≡ o.regions) × (p.labels ≡ o.labels)
+            × (p.operands.items ≡ o.operands.items ++ tokens.items)) }
         ensures assembly { self.new.made ≡ self.old.made }
         ensures around { KeepsAround self.old self.new }
         ensures memory { IfErr result (λ e. e ≡ Memory) }
@@ -148,6 +149,32 @@ impl<D: TextDialect> Assembler<D> {
         self.here.put(Part::Operands(count), first)
     }
 
+    /// An edge ends, in its operation. It began at the token of its label, and hands on what these tokens name. Their memory goes
+    /// to the content.
+    pub fn end_successor(
+        &mut self,
+        first: usize,
+        tokens: Vec<usize>,
+        content: &mut Content<D>,
+    ) -> Result<(), AssemblyFault>
+        ensures here { (o : OpenOperation) → self.old.here.body ≡ body.Operation o
+            → OnOk result ((p : OpenOperation)
+            × HasPut self.old.here self.new.here (body.Operation p) (part.Successor (length tokens.items)) first
+            × (p.kind ≡ o.kind) × (p.regions ≡ o.regions) × (p.labels.items ≡ o.labels.items ++ first ∷ [])
+            × (p.operands.items ≡ o.operands.items ++ tokens.items)) }
+        ensures assembly { self.new.made ≡ self.old.made }
+        ensures around { KeepsAround self.old self.new }
+        ensures memory { IfErr result (λ e. e ≡ Memory) }
+    {
+        let count = tokens.len();
+        if let Body::Operation(open) = &mut self.here.body {
+            open.operands.extend_from_slice(&tokens)?;
+            open.labels.push(first)?;
+        }
+        content.tokens = tokens;
+        self.here.put(Part::Successor(count), first)
+    }
+
     /// A region ends, in its operation.
     pub fn end_region(
         &mut self,
@@ -156,7 +183,8 @@ impl<D: TextDialect> Assembler<D> {
     ) -> Result<(), AssemblyFault>
         ensures here { (o : OpenOperation) → self.old.here.body ≡ body.Operation o
             → OnOk result ((p : OpenOperation) × HasPut self.old.here self.new.here (body.Operation p) part.Region first
-            × (p.kind ≡ o.kind) × (p.operands ≡ o.operands) × (p.regions.items ≡ o.regions.items ++ blocks ∷ [])) }
+            × (p.kind ≡ o.kind) × (p.operands ≡ o.operands) × (p.labels ≡ o.labels)
+            × (p.regions.items ≡ o.regions.items ++ blocks ∷ [])) }
         ensures assembly { self.new.made ≡ self.old.made }
         ensures around { KeepsAround self.old self.new }
         ensures memory { IfErr result (λ e. e ≡ Memory) }

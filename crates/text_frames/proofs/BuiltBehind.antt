@@ -10,7 +10,7 @@ use Rattle.ir_print.specs.Shown.{Saying, operands_said}
 use Rattle.ir_grammar.specs.declared.grammar.Action.{Action}
 use Rattle.ir_grammar.specs.declared.grammar.Action.TheVariants as act
 use Rattle.ir_forest.specs.Forest.{ActionSpan}
-use Rattle.ir_forest.specs.Meaning.{with_piece, pieces_in, tokens_in, operands_in, arguments_in, typed, head_of, operations_in, regions_in, blocks_in, by_operation, by_region, by_label, by_operands, by_argument}
+use Rattle.ir_forest.specs.Meaning.{with_piece, pieces_in, tokens_in, operands_in, successors_in, arguments_in, typed, head_of, operations_in, regions_in, blocks_in, by_operation, by_region, by_label, by_operands, by_successor, by_argument}
 use Rattle.ir_forest.specs.Building.{behind}
 use Rattle.text_frames.specs.building.Trees.{with_last}
 use Rattle.text_frames.specs.Worlds.{PartialModule, IsReady, AreReady, AreReadyRegions}
@@ -87,15 +87,15 @@ module _ (values : Values) (text : ℕ → List ℕ) where
 
   pub blocks_behind : (ts : Trees ActionSpan) (s : ActionSpan) (us : Trees ActionSpan)
       → blocks_in values text (behind ts (node s us)) ≡ by_label s.action
-      (with_last (blocks_in values text ts) (entity (block (text s.first) (arguments_in values text 0 us)) (operations_in values text [] us))) (blocks_in values text ts)
+      (with_last (blocks_in values text ts) (entity (block s.first (text s.first) (arguments_in values text 0 us)) (operations_in values text [] us))) (blocks_in values text ts)
   blocks_behind no_tree s us = refl
   blocks_behind (a_tree (node r rs) ts) s us = go r.action (blocks_behind ts s us)
     where
       x : Entity ℕ
-      x = entity (block (text s.first) (arguments_in values text 0 us)) (operations_in values text [] us)
+      x = entity (block s.first (text s.first) (arguments_in values text 0 us)) (operations_in values text [] us)
 
       y : Entity ℕ
-      y = entity (block (text r.first) (arguments_in values text 0 rs)) (operations_in values text [] rs)
+      y = entity (block r.first (text r.first) (arguments_in values text 0 rs)) (operations_in values text [] rs)
 
       first : Action → Entities ℕ
       first a = by_label a (an_entity y (blocks_in values text ts)) (blocks_in values text ts)
@@ -156,6 +156,12 @@ operands_behind no_tree s us = append-nil (by_operands s.action (tokens_in us) [
 operands_behind (a_tree (node r rs) ts) s us =
     ap (λ (ks : List ℕ). by_operands r.action (tokens_in rs) [] ++ ks) (operands_behind ts s us)
     ∙ sym (append_assoc (by_operands r.action (tokens_in rs) []) (operands_in ts) (by_operands s.action (tokens_in us) []))
+
+pub successors_behind : (ts : Trees ActionSpan) (s : ActionSpan) (us : Trees ActionSpan) → successors_in (behind ts (node s us)) ≡ successors_in ts ++ by_successor s.action (s.first ∷ []) []
+successors_behind no_tree s us = append-nil (by_successor s.action (s.first ∷ []) [])
+successors_behind (a_tree (node r rs) ts) s us =
+    ap (λ (ks : List ℕ). by_successor r.action (r.first ∷ []) [] ++ ks) (successors_behind ts s us)
+    ∙ sym (append_assoc (by_successor r.action (r.first ∷ []) []) (successors_in ts) (by_successor s.action (s.first ∷ []) []))
 
 pub argument_tokens_behind : (ts : Trees ActionSpan) (s : ActionSpan) (us : Trees ActionSpan) → argument_tokens (behind ts (node s us)) ≡ argument_tokens ts ++ argument_token s.action s.first
 argument_tokens_behind no_tree s us = append-nil (argument_token s.action s.first)
@@ -226,6 +232,7 @@ operands_are_said values text (a_tree (node s us) ts) = go s.action (operands_ar
     go : (a : Action) → operands_said (pieces_in values text ts) ≡ length (operands_in ts)
         → operands_said (with_piece values a (text s.first) (count us) (pieces_in values text us) (pieces_in values text ts)) ≡ length (by_operands a (tokens_in us) [] ++ operands_in ts)
     go act.BeginOperands more = omega (arith, more, tokens_count us, length-append (tokens_in us) (operands_in ts))
+    go act.BeginSuccessor more = omega (arith, more, tokens_count us, length-append (tokens_in us) (operands_in ts))
     go act.Number more = let n = is_number (text s.first) in ap (λ (x : Piece). operands_said (a_tree (node x no_tree) (pieces_in values text ts))) n.2 ∙ more
     go act.Width more = let n = is_width (text s.first) in ap (λ (x : Piece). operands_said (a_tree (node x no_tree) (pieces_in values text ts))) n.2 ∙ more
     go _ more = more

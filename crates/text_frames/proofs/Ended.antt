@@ -7,7 +7,7 @@ use Rattle.ir_names.specs.Tree.{Trees, node, no_tree, a_tree, join, count}
 use Rattle.ir_base.specs.declared.types.TypeHandle.{TypeHandle}
 use Rattle.ir_print.specs.declared.format.Part.{Part}
 use Rattle.ir_print.specs.declared.format.Part.TheVariants as part
-use Rattle.ir_print.specs.Pieces.{Pieces, Values, ValueTree, type_of_kind, attribute_of_kind, list, item, operands, region}
+use Rattle.ir_print.specs.Pieces.{Pieces, Values, ValueTree, type_of_kind, attribute_of_kind, list, item, operands, successor, region}
 use Rattle.ir_print.specs.Shown.{Saying, ShowsPart, ShowsMembers, ShowsType, ShowsAttribute}
 use Rattle.ir_program.specs.declared.handles.Ptr.{Ptr}
 use Rattle.ir_program.specs.declared.handles.BasicBlock.{BasicBlock}
@@ -28,7 +28,7 @@ use Rattle.ir_forest.specs.Building.{behind, ended_tree, names_behind, with_name
 use Rattle.ir_grammar.specs.Nesting.{Position, at_end, in_operation, in_header, in_block, in_type, in_attribute, in_list, in_item}
 use Rattle.text_frames.specs.Opened.{HasPut, HasBody}
 use Rattle.text_frames.specs.building.Kept.{KeepsKeys}
-use Rattle.text_frames.specs.Frames.{FrameSort, a_text, an_operation, some_operands, a_region, a_block, a_type, an_attribute, a_list, an_item, sort_at, sort_of, TakesParts, TakesTypes, StandsAlone, EndsAt, Begins, NamesResults, SaysParts, Contains, IsFrame, BeganSo, Ending, Ended}
+use Rattle.text_frames.specs.Frames.{FrameSort, a_text, an_operation, some_operands, an_edge, a_region, a_block, a_type, an_attribute, a_list, an_item, sort_at, sort_of, TakesParts, TakesTypes, StandsAlone, EndsAt, Begins, NamesResults, SaysParts, Contains, IsFrame, BeganSo, Ending, Ended}
 use Rattle.text_frames.proofs.BuildingLemmas.ShownLater.{members_put}
 use Rattle.ir_forest.proofs.PiecesBehind.{pieces_behind, name_behind}
 use Rattle.text_frames.proofs.Framing.{frame_later, frame_put, count_tokens}
@@ -47,6 +47,10 @@ module _ {D K A T : Type 0} where
   pub is_operands : (b : Body D K A T) → sort_of b ≡ some_operands → (ks : Vec ℕ Global) × (b ≡ body.Operands ks)
   is_operands (body.Operands ks) e = (ks, refl)
   is_operands _ e = cc
+
+  pub is_edge : (b : Body D K A T) → sort_of b ≡ an_edge → (ks : Vec ℕ Global) × (b ≡ body.Successor ks)
+  is_edge (body.Successor ks) e = (ks, refl)
+  is_edge _ e = cc
 
   pub is_region : (b : Body D K A T) → sort_of b ≡ a_region → (bs : Vec (Ptr BasicBlock) Global) × (b ≡ body.Region bs)
   is_region (body.Region bs) e = (bs, refl)
@@ -85,6 +89,7 @@ named_by an_attribute names ts e = tt
 named_by an_item names ts e = tt
 named_by a_text names ts e = e
 named_by some_operands names ts e = tt
+named_by an_edge names ts e = tt
 named_by a_region names ts e = tt
 named_by a_block names ts e = e
 named_by a_list names ts e = tt
@@ -99,6 +104,7 @@ hollow_names a_text names ts h e = e
 hollow_names a_block names ts h e = e
 hollow_names an_operation names ts h e = absurd h
 hollow_names some_operands names ts h e = absurd h
+hollow_names an_edge names ts h e = absurd h
 hollow_names a_region names ts h e = absurd h
 hollow_names a_type names ts h e = absurd h
 hollow_names an_attribute names ts h e = absurd h
@@ -125,6 +131,7 @@ module _ {D K A T : Type 0} (says : Saying K A T) (values : Values) (text : ℕ 
   hollow_contains body.Item c ts h = absurd h
   hollow_contains (body.Operation o) c ts h = absurd h
   hollow_contains (body.Operands ks) c ts h = absurd h
+  hollow_contains (body.Successor ks) c ts h = absurd h
   hollow_contains (body.Region bs) c ts h = absurd h
   hollow_contains (body.Block b) c ts h = tt
 
@@ -168,6 +175,9 @@ module _ {D K A T : Type 0} (says : Saying K A T) (values : Values) (text : ℕ 
 
   pub outer_of_operands : (ks : Vec ℕ Global) → f.body ≡ body.Operands ks → (p : OpenOperation) × (g.body ≡ body.Operation p)
   outer_of_operands ks eb = is_operation g.body (e.outer.sort ∙ ap sort_at (ends_as (body.Operands ks) eb))
+
+  pub outer_of_edge : (ks : Vec ℕ Global) → f.body ≡ body.Successor ks → (p : OpenOperation) × (g.body ≡ body.Operation p)
+  outer_of_edge ks eb = is_operation g.body (e.outer.sort ∙ ap sort_at (ends_as (body.Successor ks) eb))
 
   pub outer_region : (b : OpenBlock) → f.body ≡ body.Block b → (bs : Vec (Ptr BasicBlock) Global) × (g.body ≡ body.Region bs)
   outer_region b eb = is_region g.body (e.outer.sort ∙ ap sort_at (ends_as (body.Block b) eb))
@@ -230,6 +240,18 @@ module _ {D K A T : Type 0} (says : Saying K A T) (values : Values) (text : ℕ 
         part_put (body.Operation q) (part.Operands (length ks.items)) (node (operands (count ts)) no_tree) (subst (λ (x : Position). TakesParts (sort_at x)) (sym place) tt) (sym (ap sort_of eg)) put
             (ap (λ (a : Action). with_piece values a (text o.first) (count ts) (pieces_in values text ts) no_tree) begins)
             (ap (λ (n : ℕ). part.Operands n) (ap length tokens ∙ count_tokens ts)),
+        began_other g h (body.Operation p) (body.Operation q) eg put.body (λ a w. w ∙ ap act.Operation (sym kinds)) refl put.first,
+      )
+
+  pub ended_edge : (p q : OpenOperation) (ks : Vec ℕ Global) → f.body ≡ body.Successor ks → g.body ≡ body.Operation p → HasPut g h (body.Operation q) (part.Successor (length ks.items)) f.first → q.kind ≡ p.kind → Ended says values text t g h o next ts last
+  ended_edge p q ks eb eg put kinds =
+      let begins : o.action ≡ act.BeginSuccessor = begins_as (body.Successor ks) eb in
+      let place : next ≡ in_operation = ends_as says values text s f g o at next ts e (body.Successor ks) eb in
+      let tokens : ks.items ≡ tokens_in ts = in_it says values text s f g o at next ts e (body.Successor ks) eb in (
+        no_fault values text o ts last act.BeginSuccessor begins refl refl,
+        part_put (body.Operation q) (part.Successor (length ks.items)) (node (successor (count ts)) no_tree) (subst (λ (x : Position). TakesParts (sort_at x)) (sym place) tt) (sym (ap sort_of eg)) put
+            (ap (λ (a : Action). with_piece values a (text o.first) (count ts) (pieces_in values text ts) no_tree) begins)
+            (ap (λ (n : ℕ). part.Successor n) (ap length tokens ∙ count_tokens ts)),
         began_other g h (body.Operation p) (body.Operation q) eg put.body (λ a w. w ∙ ap act.Operation (sym kinds)) refl put.first,
       )
 

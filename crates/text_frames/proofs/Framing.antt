@@ -15,7 +15,7 @@ use Rattle.ir_forest.specs.Building.{behind, names_behind, with_name}
 use Rattle.ir_grammar.specs.Nesting.{Position}
 use Rattle.text_frames.specs.Opened.{HasPut, IsFreshFrame}
 use Rattle.text_frames.specs.building.Kept.{KeepsKeys}
-use Rattle.text_frames.specs.Frames.{FrameSort, a_text, an_operation, some_operands, a_region, a_block, a_type, an_attribute, a_list, an_item, sort_at, sort_of, TakesParts, EndsAt, IsEmpty, NamesResults, SaysParts, Contains, IsFrame, HasBegun, Stands, BeganSo}
+use Rattle.text_frames.specs.Frames.{FrameSort, a_text, an_operation, some_operands, an_edge, a_region, a_block, a_type, an_attribute, a_list, an_item, sort_at, sort_of, TakesParts, EndsAt, IsEmpty, NamesResults, SaysParts, Contains, IsFrame, HasBegun, Stands, BeganSo}
 use Rattle.text_frames.proofs.BuildingLemmas.ShownLater.{parts_later, members_later, parts_put}
 use Rattle.ir_forest.proofs.PiecesBehind.{pieces_behind, tokens_behind}
 
@@ -33,6 +33,7 @@ module _ {D K A T : Type 0} (says : Saying K A T) (values : Values) (text : ℕ 
   contains_later body.Item c ts h = parts_kept c ts h
   contains_later (body.Operation o) c ts h = parts_kept c ts h
   contains_later (body.Operands ks) c ts h = h
+  contains_later (body.Successor ks) c ts h = h
   contains_later (body.Region bs) c ts h = h
   contains_later (body.Block b) c ts h = h
 
@@ -62,6 +63,7 @@ unnamed an_attribute names ts takes = tt
 unnamed an_item names ts takes = tt
 unnamed a_text names ts takes = absurd takes
 unnamed some_operands names ts takes = absurd takes
+unnamed an_edge names ts takes = absurd takes
 unnamed a_region names ts takes = absurd takes
 unnamed a_block names ts takes = absurd takes
 unnamed a_list names ts takes = absurd takes
@@ -73,6 +75,7 @@ no_names an_attribute names e = tt
 no_names an_item names e = tt
 no_names a_text names e = e
 no_names some_operands names e = tt
+no_names an_edge names e = tt
 no_names a_region names e = tt
 no_names a_block names e = e
 no_names a_list names e = tt
@@ -88,6 +91,7 @@ module _ {D K A T : Type 0} (says : Saying K A T) (values : Values) (text : ℕ 
   parts_of body.Item c ts takes h = h
   parts_of (body.Operation o) c ts takes h = h
   parts_of (body.Operands ks) c ts takes h = absurd takes
+  parts_of (body.Successor ks) c ts takes h = absurd takes
   parts_of (body.Region bs) c ts takes h = absurd takes
   parts_of (body.Block b) c ts takes h = absurd takes
 
@@ -99,6 +103,7 @@ module _ {D K A T : Type 0} (says : Saying K A T) (values : Values) (text : ℕ 
   of_parts body.Item c ts takes h = h
   of_parts (body.Operation o) c ts takes h = h
   of_parts (body.Operands ks) c ts takes h = absurd takes
+  of_parts (body.Successor ks) c ts takes h = absurd takes
   of_parts (body.Region bs) c ts takes h = absurd takes
   of_parts (body.Block b) c ts takes h = absurd takes
 
@@ -177,6 +182,7 @@ module _ {D K A T : Type 0} (says : Saying K A T) (values : Values) (text : ℕ 
   fresh_contains f body.Item k h e = fresh_parts f body.Item k h
   fresh_contains f (body.Operation o) k h e = fresh_parts f (body.Operation o) k h
   fresh_contains f (body.Operands ks) k h e = e
+  fresh_contains f (body.Successor ks) k h e = e
   fresh_contains f (body.Region bs) k h e = tt
   fresh_contains f (body.Block b) k h e = tt
 

@@ -15,7 +15,7 @@ use Rattle.ir_forest.specs.Building.{fault_at_end, with_end, behind, ended_tree}
 use Rattle.ir_grammar.specs.Nesting.{Position, at_end}
 use Rattle.text_frames.specs.building.Kept.{KeepsKeys}
 use Rattle.ir_formats.specs.Ordered.{Standing, alone, moved_out}
-use Rattle.text_frames.specs.Frames.{FrameSort, a_text, an_operation, some_operands, a_region, a_block, a_type, an_attribute, a_list, an_item, sort_at, sort_of, EndsAt, Stands, Ending, Ended}
+use Rattle.text_frames.specs.Frames.{FrameSort, a_text, an_operation, some_operands, an_edge, a_region, a_block, a_type, an_attribute, a_list, an_item, sort_at, sort_of, EndsAt, Stands, Ending, Ended}
 use Rattle.text_frames.proofs.Framing.{stands_later, stands_with, innermost}
 use Rattle.text_frames.proofs.Ended.{is_text}
 
@@ -24,6 +24,7 @@ root_sort : (s : FrameSort) → EndsAt s at_end → s ≡ an_operation
 root_sort an_operation h = refl
 root_sort a_text h = absurd h
 root_sort some_operands h = cc
+root_sort an_edge h = cc
 root_sort a_region h = cc
 root_sort a_block h = cc
 root_sort a_type h = absurd h

@@ -18,9 +18,11 @@ use Rattle.text_frames.specs.declared.opened.Body.TheVariants as body
 use Rattle.text_frames.specs.declared.opened.Open.{Open}
 use Rattle.ir_forest.specs.Building as building
 use Rattle.ir_forest.specs.Forest.{ActionSpan}
-use Rattle.ir_grammar.specs.Nesting.{Position, at_root, behind_root_results, at_end, in_operation, in_operands, in_region, in_header, in_argument, in_block, behind_results, in_type, in_attribute, in_list, in_item}
-use Rattle.text_frames.specs.Worlds.{joined, PartialModule, AreAmong, LaterWorld, End, MayEndAs, IsMade, IsReady, AreReady, AreReadyRegions, IsOpenBlock}
-use Rattle.text_frames.specs.Raised.{listed_block, blocks_of_body, begun_at, RaisesRoot, IsHeader, IsOpened, RaisesBlock, Raises, IsRaised, RaisesAll}
+use Rattle.ir_grammar.specs.Nesting.{Position, at_root, behind_root_results, at_end, in_operation, in_operands, in_successor, in_region, in_header, in_argument, in_block, behind_results, in_type, in_attribute, in_list, in_item}
+use Rattle.text_frames.specs.Worlds.{joined, NameTokens, PartialModule, AreAmong, LaterNames, LaterWorld, End, MayEndAs, IsMade, IsReady, AreReady, AreReadyRegions, IsOpenBlock}
+use Rattle.ir_grammar.specs.declared.grammar.Action.{Action}
+use Rattle.ir_scopes.specs.Naming.{defined_by, mentioned_by, labelled_by, label_mentioned_by}
+use Rattle.text_frames.specs.Raised.{names_after, listed_block, blocks_of_body, begun_at, RaisesRoot, IsHeader, IsOpened, RaisesBlock, Raises, IsRaised, RaisesAll}
 
 -- ---- lists
 
@@ -47,6 +49,42 @@ among_same ks i k h = (i, h)
 pub among_both : (ks ms ns : List ℕ) → AreAmong ks ms → AreAmong ms ns → AreAmong ks ns
 among_both ks ms ns f g i k h = let x = f i k h in g x.0 k x.1
 
+-- ---- names
+
+pub names_same : (m : NameTokens) → LaterNames m m
+names_same m = record {
+  definitions = λ i k h. h;
+  mentions = among_same m.mentions;
+  labels = λ i k h. h;
+  edges = among_same m.edges;
+}
+
+pub names_both : (l m n : NameTokens) → LaterNames l m → LaterNames m n → LaterNames l n
+names_both l m n f g = record {
+  definitions = λ i k h. g.definitions i k (f.definitions i k h);
+  mentions = among_both l.mentions m.mentions n.mentions f.mentions g.mentions;
+  labels = λ i k h. g.labels i k (f.labels i k h);
+  edges = among_both l.edges m.edges n.edges f.edges g.edges;
+}
+
+-- more of each sort behind them
+pub names_longer : (m : NameTokens) (ds ms ls es : List ℕ) → LaterNames m (record {
+  definitions = m.definitions ++ ds;
+  mentions = m.mentions ++ ms;
+  labels = m.labels ++ ls;
+  edges = m.edges ++ es;
+})
+names_longer m ds ms ls es = record {
+  definitions = λ i k h. get_left m.definitions ds i k h;
+  mentions = λ i k h. (i, get_left m.mentions ms i k h);
+  labels = λ i k h. get_left m.labels ls i k h;
+  edges = λ i k h. (i, get_left m.edges es i k h);
+}
+
+-- what an action names comes behind them
+pub names_later : (m : NameTokens) (a : Action) (k : ℕ) → LaterNames m (names_after m a k)
+names_later m a k = names_longer m (defined_by a k) (mentioned_by a k) (labelled_by a k) (label_mentioned_by a k)
+
 -- ---- contexts and worlds
 
 module _ {K A T : Type 0} where
@@ -63,8 +101,8 @@ module _ {K A T : Type 0} where
   world_same w = record {
     ctx = later_same w.ctx;
     values = λ n x h. h;
-    tokens = λ n k h. h;
-    mentions = among_same w.mentions;
+    blocks = λ n b h. h;
+    names = names_same w.names;
     pending = λ i x h. h;
   }
 
@@ -72,8 +110,8 @@ module _ {K A T : Type 0} where
   world_both w v u f g = record {
     ctx = later_both w.ctx v.ctx u.ctx f.ctx g.ctx;
     values = λ n x h. g.values n x (f.values n x h);
-    tokens = λ n k h. g.tokens n k (f.tokens n k h);
-    mentions = among_both w.mentions v.mentions u.mentions f.mentions g.mentions;
+    blocks = λ n b h. g.blocks n b (f.blocks n b h);
+    names = names_both w.names v.names u.names f.names g.names;
     pending = λ i x h. g.pending i x (f.pending i x h);
   }
 
@@ -82,8 +120,11 @@ module _ {K A T : Type 0} where
   reaches_before w v e l r = record {
     ctx = later_both w.ctx v.ctx e.ctx l.ctx r.ctx;
     values = λ n x h. r.values n x (l.values n x h);
-    tokens = λ n k h. r.tokens n k (l.tokens n k h);
+    blocks = λ n b h. r.blocks n b (l.blocks n b h);
+    definitions = λ n k h. r.definitions n k (l.names.definitions n k h);
+    labels = λ n k h. r.labels n k (l.names.labels n k h);
     operands = λ i x h. r.operands i x (l.pending i x h);
+    successors = λ i x h. r.successors i x (l.pending i x h);
   }
 
 -- ---- blocks that are in no region yet
@@ -142,13 +183,14 @@ module _ {K A T : Type 0} (says : Saying K A T) (w v : PartialModule K A T) (l :
   )
   ready_regions_later _ _ keeps h = absurd h
 
-  pub open_block_later : (p : Ptr BasicBlock) (label : List ℕ) (arguments : List (ℕ × ValueTree)) (ts : Entities ℕ)
+  pub open_block_later : (p : Ptr BasicBlock) (named : ℕ) (label : List ℕ) (arguments : List (ℕ × ValueTree)) (ts : Entities ℕ)
       → v.ctx.block p ≡ w.ctx.block p
-      → IsOpenBlock says w p label arguments ts → IsOpenBlock says v p label arguments ts
-  open_block_later p label arguments ts same h = record {
+      → IsOpenBlock says w p named label arguments ts → IsOpenBlock says v p named label arguments ts
+  open_block_later p named label arguments ts same h = record {
     view = h.view;
     at = same ∙ h.at;
     labelled = h.labelled;
+    names = λ e r. h.names e (reaches_before w v e l r);
     defines = λ e r. h.defines e (reaches_before w v e l r);
     holds = λ e r. h.holds e (reaches_before w v e l r);
   }
@@ -161,6 +203,7 @@ begun_behind behind_root_results h = cc
 begun_behind at_end h = cc
 begun_behind in_operation h = cc
 begun_behind in_operands h = cc
+begun_behind in_successor h = cc
 begun_behind in_region h = cc
 begun_behind in_header h = cc
 begun_behind in_argument h = cc
@@ -182,6 +225,7 @@ module _ {K A T : Type 0} (says : Saying K A T) (values : Values) (text : ℕ �
   root_later old new behind_root_results ts keeps h = h
   root_later old new in_operation ts keeps h = h
   root_later old new in_operands ts keeps h = h
+  root_later old new in_successor ts keeps h = h
   root_later old new in_region ts keeps h = h
   root_later old new in_header ts keeps h = h
   root_later old new in_argument ts keeps h = h
@@ -217,19 +261,24 @@ module _ {D K A T : Type 0} (says : Saying K A T) (values : Values) (text : ℕ 
     among = h.among;
     header = h.header;
     names = h.names;
-    block = open_block_later says w v l p _ _ _ same h.block;
+    block = open_block_later says w v l p _ _ _ _ same h.block;
   }
 
   pub raises_later : (b : Body D K A T) (f : Open D K A T) (at : Position) (ts : Trees ActionSpan)
       → KeepsEach w.ctx v.ctx (blocks_of_body b) → Raises says values text w b f at ts
       → Raises says values text v b f at ts
-  raises_later (body.Operands ks) f at ts keeps h = among_both ks.items w.mentions v.mentions h l.mentions
-  raises_later (body.Operation o) f at ts keeps h = (
-    h.0,
-    among_both o.operands.items w.mentions v.mentions h.1 l.mentions,
-    ready_regions_later says w v l
-        o.regions.items _ keeps h.2,
+  raises_later (body.Operands ks) f at ts keeps h = among_both ks.items w.names.mentions v.names.mentions h l.names.mentions
+  raises_later (body.Successor ks) f at ts keeps h = (
+    among_both ks.items w.names.mentions v.names.mentions h.0 l.names.mentions,
+    among_both (f.first ∷ []) w.names.edges v.names.edges h.1 l.names.edges,
   )
+  raises_later (body.Operation o) f at ts keeps h = record {
+    operands = h.operands;
+    mentioned = among_both o.operands.items w.names.mentions v.names.mentions h.mentioned l.names.mentions;
+    labels = h.labels;
+    labels_mentioned = among_both o.labels.items w.names.edges v.names.edges h.labels_mentioned l.names.edges;
+    regions = ready_regions_later says w v l o.regions.items _ keeps h.regions;
+  }
   raises_later (body.Region bs) f at ts keeps h = are_ready_later says w v l bs.items _ keeps h
   raises_later (body.Block b) f at ts keeps h = block_later b.block keeps h
     where
@@ -248,8 +297,8 @@ module _ {D K A T : Type 0} (says : Saying K A T) (values : Values) (text : ℕ 
       → IsRaised says values text v f at ts
   raised_later f at ts keeps h = record {
     made = raises_later f.body f at ts keeps h.made;
-    numbered = pairs_weaker (λ n k. slice_get w.tokens n ≡ Some k) (λ n k. slice_get v.tokens n ≡ Some k)
-        (λ n k e. l.tokens n k e) f.numbers.items _ h.numbered;
+    numbered = pairs_weaker (λ n k. slice_get w.names.definitions n ≡ Some k) (λ n k. slice_get v.names.definitions n ≡ Some k)
+        (λ n k e. l.names.definitions n k e) f.numbers.items _ h.numbered;
   }
 
   -- all that is open stays raised where its blocks stay as they were

@@ -1,14 +1,14 @@
 -- Where an action leads to, by the action.
-use Rattle.std.proofs.Common.{◌≡◌, ℕ, List, [], ◌∷◌, Some, Bool, true, false, refl}
+use Rattle.std.proofs.Common.{◌≡◌, ℕ, List, [], ◌∷◌, Some, Bool, true, false, refl, ◌⊎◌, inl, inr}
 use Rattle.std.specs.Prelude.{◌==◌, if◌then◌else◌}
 use Rattle.ir_names.specs.declared.kinds.Signedness.{Signedness}
 use Rattle.ir_names.specs.declared.kinds.Signedness.TheVariants.{Signless, Signed, Unsigned}
 use Rattle.ir_print.specs.Pieces.{number, width}
 use Rattle.ir_grammar.specs.declared.grammar.Action.TheVariants as act
 use Rattle.ir_forest.specs.Meaning.{digits, number_in, width_in, tail}
-use Rattle.ir_grammar.specs.Nesting.{Position, at_root, behind_root_results, at_end, in_operation, in_operands, in_region, in_header, in_argument, in_block, behind_results, in_type, in_attribute, in_list, in_item, move}
+use Rattle.ir_grammar.specs.Nesting.{Position, at_root, behind_root_results, at_end, in_operation, in_operands, in_successor, in_region, in_header, in_argument, in_block, behind_results, in_type, in_attribute, in_list, in_item, move}
 use Rattle.ir_formats.specs.Ordered.{Standing, moved_by, moved_out}
-use Rattle.text_frames.specs.Frames.{FrameSort, an_operation, some_operands, a_region, a_block, a_type, an_attribute, a_list, an_item, sort_at, TakesParts, EndsAt}
+use Rattle.text_frames.specs.Frames.{FrameSort, an_operation, some_operands, an_edge, a_region, a_block, a_type, an_attribute, a_list, an_item, sort_at, TakesParts, EndsAt}
 use Rattle.text_frames.proofs.Ended.{Hollow}
 
 -- something of this sort begins, and behind it reading goes on in what is around it
@@ -77,6 +77,10 @@ module _ (around : List Position) (next : Standing) where
   operands_begin in_operation h = record { inner = in_operands; outer = in_operation; leads = cc; stays = refl; is_sort = refl; ends = refl }
   operands_begin _ h = cc
 
+  pub edge_begins : (p : Position) → moved_by (move p act.BeginSuccessor) around ≡ Some next → GoesIn an_edge p around next
+  edge_begins in_operation h = record { inner = in_successor; outer = in_operation; leads = cc; stays = refl; is_sort = refl; ends = refl }
+  edge_begins _ h = cc
+
   pub name_stays : (p : Position) → moved_by (move p act.Name) around ≡ Some next → Stays p around next
   name_stays in_operation h = record { leads = cc; takes = tt }
   name_stays in_type h = record { leads = cc; takes = tt }
@@ -113,8 +117,11 @@ module _ (around : List Position) (next : Standing) where
   header_goes in_header h = (record { to = in_block; leads = cc; stays = refl }, refl)
   header_goes _ h = cc
 
-  pub operand_goes : (p : Position) → moved_by (move p act.Operand) around ≡ Some next → GoesTo p around next × (sort_at p ≡ some_operands)
-  operand_goes in_operands h = (record { to = in_operands; leads = cc; stays = refl }, refl)
+  -- operands stand among those of an operation, or among those that an edge hands on
+  pub operand_goes : (p : Position) → moved_by (move p act.Operand) around ≡ Some next
+      → GoesTo p around next × ((sort_at p ≡ some_operands) ⊎ (sort_at p ≡ an_edge))
+  operand_goes in_operands h = (record { to = in_operands; leads = cc; stays = refl }, inl refl)
+  operand_goes in_successor h = (record { to = in_successor; leads = cc; stays = refl }, inr refl)
   operand_goes _ h = cc
 
   -- an end leads behind what ends, which is of the sort that the action ends
@@ -141,6 +148,10 @@ module _ (around : List Position) (next : Standing) where
   pub operands_out : (p : Position) → moved_by (move p act.EndOperands) around ≡ Some next → (moved_out around ≡ Some next) × (sort_at p ≡ some_operands)
   operands_out in_operands h = (h, refl)
   operands_out _ h = cc
+
+  pub edge_out : (p : Position) → moved_by (move p act.EndSuccessor) around ≡ Some next → (moved_out around ≡ Some next) × (sort_at p ≡ an_edge)
+  edge_out in_successor h = (h, refl)
+  edge_out _ h = cc
 
   pub item_out : (p : Position) → moved_by (move p act.EndItem) around ≡ Some next → (moved_out around ≡ Some next) × (sort_at p ≡ an_item)
   item_out in_item h = (h, refl)

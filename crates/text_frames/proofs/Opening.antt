@@ -5,7 +5,7 @@ use Rattle.ir_base.specs.declared.types.TypeHandle.{TypeHandle}
 use Rattle.ir_context.specs.Known.{AreKnownIn}
 use Rattle.ir_names.specs.Tree.{Trees, node}
 use Rattle.ir_program.specs.Program.{RegionView, operation_at, block_at, region_at}
-use Rattle.ir_print.specs.Pieces.{type_of_kind, attribute_of_kind, list, item, operands, region, name, number, width, ValueTree}
+use Rattle.ir_print.specs.Pieces.{type_of_kind, attribute_of_kind, list, item, operands, successor, region, name, number, width, ValueTree}
 use Rattle.text_dialect.specs.declared.dialect.MakeFault.{MakeFault}
 use Rattle.text_dialect.specs.declared.dialect.MakeFault.TheVariants as make
 use Rattle.ir_print.specs.declared.format.Part.{Part}
@@ -72,6 +72,7 @@ module _ {K A T : Type 0} (says : Saying K A T) (types : List T) where
   known_one ty (node list ts) (us, e, all) = cc
   known_one ty (node item ts) (us, e, all) = cc
   known_one ty (node (operands n) ts) e = cc
+  known_one ty (node (successor n) ts) e = cc
   known_one ty (node region ts) e = cc
   known_one ty (node (name cs) ts) e = cc
   known_one ty (node (number b m) ts) e = cc

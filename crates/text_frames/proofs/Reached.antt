@@ -1,24 +1,26 @@
--- What was assembled of a text has its tree once its operands are linked.
+-- What was assembled of a text has its tree once its operands and successors are linked.
 use Rattle.std.proofs.Common.{◌≡◌, ℕ, zero, suc, ◌<◌, List, [], ◌∷◌, length, Option, Some, None, option_and_then, slice_get, slice_index, refl, sym, subst, ap, ◌∙◌, arith, append-nil}
 use Rattle.std.proofs.lemmas.Option.{slice_get_within, get_or_from_slice_get}
 use Rattle.ir_program.specs.declared.handles.Ptr.{Ptr}
 use Rattle.ir_program.specs.declared.handles.Operation.{Operation}
+use Rattle.ir_program.specs.declared.handles.BasicBlock.{BasicBlock}
 use Rattle.ir_program.specs.declared.handles.Value.{Value}
 use Rattle.ir_print.specs.Pieces.{Values}
 use Rattle.ir_print.specs.Shown.{Saying}
 use Rattle.ir_grammar.specs.declared.grammar.Event.{Event}
-use Rattle.ir_scopes.specs.Naming.{defined_from, mentioned_from}
+use Rattle.ir_scopes.specs.Naming.{defined_from, mentioned_from, labelled_from, label_mentioned_from}
 use Rattle.text_dialect.specs.Seen.{Seen}
 use Rattle.text_dialect.specs.Standing.{HasTree, HasOwnLabel}
 use Rattle.text_frames.specs.building.Later.{IsLater}
-use Rattle.text_frames.specs.building.Loose.{IsDefinedValue}
+use Rattle.text_frames.specs.building.Loose.{IsDefinedValue, IsDefinedBlock}
 use Rattle.text_frames.proofs.BuildingLemmas.Later.{defined_later}
 use Rattle.text_frames.specs.declared.assembly.Assembly.{Assembly}
 use Rattle.text_frames.specs.Waiting.{Pending}
-use Rattle.text_frames.specs.Linking.{value_at, meant, AreMeant, CanLink, Links}
-use Rattle.text_frames.specs.Raised.{IsAssembled}
-use Rattle.text_frames.specs.Worlds.{operands_of, End, MeansInTheEnd, MayEndAs}
+use Rattle.text_frames.specs.Linking.{value_at, meant, target, AreMeant, AreTargets, CanLink, Links}
+use Rattle.text_frames.specs.Raised.{names_in, IsAssembled}
+use Rattle.text_frames.specs.Worlds.{operands_of, successors_of, End, MeansInTheEnd, MayEndAs}
 use Rattle.text_frames.proofs.LaterWorlds.{pairs_weaker}
+use Rattle.text_frames.proofs.Rising.{get_there}
 
 -- ---- lists of values, all made
 
@@ -73,6 +75,27 @@ module _ {K A T : Type 0} (s : Seen K A T) (values : List (Option Value)) (numbe
       let more = all_meant ks (λ i j h. each (suc i) j h) in
       (first.0 ∷ more.0, ((first.1, first.2), more.1))
 
+module _ {K A T : Type 0} (s : Seen K A T) (blocks : List (Ptr BasicBlock)) (numbers : List ℕ) where
+  -- where each label means a block, together they do
+  all_targets : (ks : List ℕ) → ((i k : ℕ) → slice_get ks i ≡ Some k
+      → (b : Ptr BasicBlock) × (target blocks numbers k ≡ Some b) × IsDefinedBlock s b)
+      → (bs : List (Ptr BasicBlock)) × AreTargets s blocks numbers bs ks
+  all_targets [] each = ([], tt)
+  all_targets (k ∷ ks) each =
+      let first = each 0 k refl in
+      let more = all_targets ks (λ i j h. each (suc i) j h) in
+      (first.0 ∷ more.0, ((first.1, first.2), more.1))
+
+-- the number of the block that a label means has the block
+target_block : (blocks : List (Ptr BasicBlock)) (numbers : List ℕ) (b : Ptr BasicBlock) (k : ℕ)
+    → target blocks numbers k ≡ Some b → slice_get blocks (slice_index numbers k) ≡ Some b
+target_block blocks numbers b k h = go (slice_get numbers k) refl h
+  where
+    go : (o : Option ℕ) → slice_get numbers k ≡ o → option_and_then (slice_get blocks) o ≡ Some b
+        → slice_get blocks (slice_index numbers k) ≡ Some b
+    go None e m = let wrong : None ≡ Some b = m in cc
+    go (Some n) e m = ap (slice_get blocks) (get_or_from_slice_get numbers k n 0 e) ∙ m
+
 module _ (values : List (Option Value)) (numbers : List ℕ) where
   -- the number of the definition that a token means has the value
   meant_value : AllMade values → (v : Value) (k : ℕ) → meant values numbers k ≡ Some v
@@ -92,8 +115,8 @@ module _ (values : List (Option Value)) (numbers : List ℕ) where
 
 -- ---- linking keeps what is whole
 
-module _ {K A T : Type 0} (s t : Seen K A T) (values : List (Option Value)) (numbers : List ℕ) (ps : List Pending)
-    (links : Links s t values numbers ps) where
+module _ {K A T : Type 0} (s t : Seen K A T) (values : List (Option Value)) (blocks : List (Ptr BasicBlock))
+    (numbers : List ℕ) (ps : List Pending) (links : Links s t values blocks numbers ps) where
   pub all_links_later : IsLater s t
   all_links_later = record {
     types = λ i key e. ap (λ ts. slice_get ts i) links.types ∙ e;
@@ -140,10 +163,11 @@ module _ {K A T : Type 0} (says : Saying K A T) (values : Values) (text : ℕ �
 
   module _ (numbers : List ℕ) where
     -- where each token that mentions a value has the number of a definition, each token of an operand means a value
-    pub can_link : ((i k : ℕ) → slice_get (mentioned_from 0 es) i ≡ Some k
+    can_link_values : ((i k : ℕ) → slice_get (mentioned_from 0 es) i ≡ Some k
         → (j : ℕ) × (slice_get numbers k ≡ Some j) × (j < length (defined_from 0 es)))
-        → CanLink s a.values.items numbers a.pending.items
-    can_link mentioned = λ i x at. all_meant s a.values.items numbers x.tokens (λ j k here.
+        → (i : ℕ) (x : Pending) → slice_get a.pending.items i ≡ Some x
+        → (vs : List Value) × AreMeant s a.values.items numbers vs x.tokens
+    can_link_values mentioned = λ i x at. all_meant s a.values.items numbers x.tokens (λ j k here.
         let among = made.operands.among i x at j k here in
         let number = mentioned among.0 k among.1 in
         let value = made.settled number.0 (let lt = number.2 in omega (arith, made.many)) in (
@@ -153,39 +177,67 @@ module _ {K A T : Type 0} (says : Saying K A T) (values : Values) (text : ℕ �
           value.2,
         ))
 
-    module _ (t : Seen K A T) (links : Links s t a.values.items numbers a.pending.items) where
+    -- where each label of an edge has the number of a block's label, it means a block
+    can_link_blocks : ((i k : ℕ) → slice_get (label_mentioned_from 0 es) i ≡ Some k
+        → (j : ℕ) × (slice_get numbers k ≡ Some j) × (j < length (labelled_from 0 es)))
+        → (i : ℕ) (x : Pending) → slice_get a.pending.items i ≡ Some x
+        → (bs : List (Ptr BasicBlock)) × AreTargets s a.blocks.items numbers bs x.labels
+    can_link_blocks mentioned = λ i x at. all_targets s a.blocks.items numbers x.labels (λ j k here.
+        let among = made.operands.labels_among i x at j k here in
+        let number = mentioned among.0 k among.1 in
+        let block = get_there a.blocks.items number.0 (let lt = number.2 in omega (arith, lt, made.many_blocks)) in (
+          block.0,
+          ap (option_and_then (slice_get a.blocks.items)) number.1 ∙ block.1,
+          made.blocks_there number.0 block.0 block.1,
+        ))
+
+    -- where both do, all can be linked
+    pub can_link : ((i k : ℕ) → slice_get (mentioned_from 0 es) i ≡ Some k
+        → (j : ℕ) × (slice_get numbers k ≡ Some j) × (j < length (defined_from 0 es)))
+        → ((i k : ℕ) → slice_get (label_mentioned_from 0 es) i ≡ Some k
+        → (j : ℕ) × (slice_get numbers k ≡ Some j) × (j < length (labelled_from 0 es)))
+        → CanLink s a.values.items a.blocks.items numbers a.pending.items
+    can_link mentioned edges = record { operands = can_link_values mentioned; successors = can_link_blocks edges }
+
+    module _ (t : Seen K A T) (links : Links s t a.values.items a.blocks.items numbers a.pending.items) where
       -- where making ends
       abbrev pub the_end : End K A T
-      the_end = record { ctx = t; values = assembled_values; number = slice_index numbers }
+      the_end = record { ctx = t; values = assembled_values; blocks = a.blocks.items; number = slice_index numbers }
 
       pub assembled_later : IsLater s t
-      assembled_later = all_links_later s t a.values.items numbers a.pending.items links
+      assembled_later = all_links_later s t a.values.items a.blocks.items numbers a.pending.items links
 
-      -- what was assembled ends so, where at the token of each definition stands its number
+      -- what was assembled ends so, where at the token of each definition stands its number, and at each label that of its block
       pub reached : ((i k : ℕ) → slice_get (defined_from 0 es) i ≡ Some k → slice_index numbers k ≡ i)
+          → ((i k : ℕ) → slice_get (labelled_from 0 es) i ≡ Some k → slice_index numbers k ≡ i)
           → MayEndAs (record {
             ctx = s;
             values = a.values.items;
-            tokens = defined_from 0 es;
-            mentions = mentioned_from
-                0 es;
+            blocks = a.blocks.items;
+            names = names_in es;
             pending = a.pending.items;
           }) the_end
-      reached defined = record {
+      reached defined labelled = record {
         ctx = assembled_later;
         values = λ i x h. made_get a.values.items all_made i x h;
-        tokens = defined;
+        blocks = λ i b h. h;
+        definitions = defined;
+        labels = labelled;
         operands = λ i x h. pairs_weaker (λ v k. (meant a.values.items numbers k ≡ Some v) × IsDefinedValue s v)
-            (MeansInTheEnd the_end)
+            (MeansInTheEnd the_end).value
             (λ v k m. meant_value a.values.items numbers all_made v k m.0) (operands_of t x.op) x.tokens
             (links.operands i x h);
+        successors = λ i x h. pairs_weaker (λ b k. (target a.blocks.items numbers k ≡ Some b) × IsDefinedBlock s b)
+            (MeansInTheEnd the_end).block
+            (λ b k m. target_block a.blocks.items numbers b k m.0) (successors_of t x.op) x.labels
+            (links.successors i x h);
       }
 
-      -- then the root has the tree that was built, in which each token names the value of its definition
+      -- then the root has the tree that was built, in which each token names the value of its definition, or its block
       pub root_tree : ((i k : ℕ) → slice_get (defined_from 0 es) i ≡ Some k → slice_index numbers k ≡ i)
-          → HasTree says (λ v k. slice_get assembled_values (slice_index numbers k) ≡ Some v) HasOwnLabel t made.root
-          made.tree
-      root_tree defined = made.made the_end (reached defined)
+          → ((i k : ℕ) → slice_get (labelled_from 0 es) i ≡ Some k → slice_index numbers k ≡ i)
+          → HasTree says (MeansInTheEnd the_end) HasOwnLabel t made.root made.tree
+      root_tree defined labelled = made.made the_end (reached defined labelled)
 
       -- the values are defined still
       pub assembled_still : (i : ℕ) (v : Value) → slice_get assembled_values i ≡ Some v → IsDefinedValue t v

@@ -13,13 +13,13 @@ use Rattle.ir_forest.specs.Forest.{ActionSpan}
 use Rattle.ir_forest.specs.Meaning.{pieces_in, tokens_in}
 use Rattle.ir_forest.specs.Building as building
 use Rattle.ir_forest.specs.Building.{behind, ended_tree, names_behind, fault_at_end}
-use Rattle.ir_grammar.specs.Nesting.{Position, at_root, behind_root_results, at_end, in_operation, in_operands, in_region, in_header, in_argument, in_block, behind_results, in_type, in_attribute, in_list, in_item}
+use Rattle.ir_grammar.specs.Nesting.{Position, at_root, behind_root_results, at_end, in_operation, in_operands, in_successor, in_region, in_header, in_argument, in_block, behind_results, in_type, in_attribute, in_list, in_item}
 
 -- ---- sorts
 
 -- the sorts of what may be open
 pub data FrameSort : Type 0 where
-  a_text an_operation some_operands a_region a_block a_type an_attribute a_list an_item : FrameSort
+  a_text an_operation some_operands an_edge a_region a_block a_type an_attribute a_list an_item : FrameSort
 
 -- the sort of what is open at a position
 abbrev pub sort_at : Position → FrameSort
@@ -28,6 +28,7 @@ sort_at behind_root_results = a_text
 sort_at at_end = a_text
 sort_at in_operation = an_operation
 sort_at in_operands = some_operands
+sort_at in_successor = an_edge
 sort_at in_region = a_region
 sort_at in_header = a_block
 sort_at in_argument = a_block
@@ -62,6 +63,7 @@ abbrev pub EndsAt : FrameSort → Position → Type 0
 EndsAt a_text p = ⊥
 EndsAt an_operation p = StandsAlone p
 EndsAt some_operands p = p ≡ in_operation
+EndsAt an_edge p = p ≡ in_operation
 EndsAt a_region p = p ≡ in_operation
 EndsAt a_block p = p ≡ in_region
 EndsAt a_type p = TakesTypes p
@@ -79,6 +81,7 @@ module _ {D K A T : Type 0} where
   sort_of body.Item = an_item
   sort_of (body.Operation o) = an_operation
   sort_of (body.Operands ks) = some_operands
+  sort_of (body.Successor ks) = an_edge
   sort_of (body.Region bs) = a_region
   sort_of (body.Block b) = a_block
 
@@ -91,6 +94,7 @@ module _ {D K A T : Type 0} where
   Begins body.Item a = a ≡ act.BeginItem
   Begins (body.Operation o) a = a ≡ act.Operation o.kind
   Begins (body.Operands ks) a = a ≡ act.BeginOperands
+  Begins (body.Successor ks) a = a ≡ act.BeginSuccessor
   Begins (body.Region bs) a = a ≡ act.BeginRegion
   Begins (body.Block b) a = a ≡ act.Label
 
@@ -98,6 +102,7 @@ module _ {D K A T : Type 0} where
   abbrev pub IsEmpty : Body D K A T → Type 0
   IsEmpty (body.List ms) = ms.items ≡ []
   IsEmpty (body.Operands ks) = ks.items ≡ []
+  IsEmpty (body.Successor ks) = ks.items ≡ []
   IsEmpty b = Unit {0}
 
 -- The names of results behind the trees are these. Only a block and the text have such.
@@ -121,6 +126,7 @@ module _ {D K A T : Type 0} (says : Saying K A T) (values : Values) (text : ℕ 
   Contains body.Item c ts = SaysParts c ts
   Contains (body.Operation o) c ts = SaysParts c ts
   Contains (body.Operands ks) c ts = ks.items ≡ tokens_in ts
+  Contains (body.Successor ks) c ts = ks.items ≡ tokens_in ts
   Contains (body.Region bs) c ts = Unit {0}
   Contains (body.Block b) c ts = Unit {0}
 

@@ -12,7 +12,7 @@ use Rattle.ir_program.specs.declared.handles.Value.{Value}
 use Rattle.text_dialect.specs.Seen.{Seen}
 use Rattle.text_frames.specs.building.Inside.{AreLoose, CameSince}
 use Rattle.text_frames.specs.building.Made.{lists_of}
-use Rattle.text_frames.specs.building.Loose.{AreDistinctHandles, IsDefinedValue}
+use Rattle.text_frames.specs.building.Loose.{AreDistinctHandles, IsDefinedValue, IsDefinedBlock}
 use Rattle.ir_print.specs.declared.format.Part.TheVariants as part
 use Rattle.ir_print.specs.Pieces.{Pieces, Values, ValueTree, Entity, no_entity, an_entity}
 use Rattle.ir_print.specs.Shown.{Saying, Pairs, ShowsType}
@@ -27,10 +27,11 @@ use Rattle.text_frames.specs.declared.opened.Open.{Open}
 use Rattle.ir_forest.specs.Building as building
 use Rattle.ir_forest.specs.Building.{built, names_behind}
 use Rattle.ir_forest.specs.Forest.{ActionSpan}
-use Rattle.ir_forest.specs.Meaning.{pieces_in, operands_in, arguments_in, typed, operations_in, regions_in, blocks_in}
+use Rattle.ir_forest.specs.Meaning.{pieces_in, operands_in, successors_in, arguments_in, typed, operations_in, regions_in, blocks_in}
 use Rattle.ir_grammar.specs.Nesting.{Position, at_root, behind_root_results, at_end, in_header, in_argument, in_block, behind_results}
-use Rattle.text_frames.specs.Worlds.{joined, AreAmong, PartialModule, IsMade, AreReady, AreReadyRegions, IsOpenBlock, operands_of}
-use Rattle.ir_scopes.specs.Naming.{defined_from, mentioned_from}
+use Rattle.text_frames.specs.Worlds.{joined, AreAmong, NameTokens, PartialModule, IsMade, AreReady, AreReadyRegions, IsOpenBlock, operands_of, successors_of}
+use Rattle.ir_scopes.specs.Naming.{defined_by, defined_from, mentioned_by, mentioned_from, labelled_by, labelled_from, label_mentioned_by, label_mentioned_from}
+use Rattle.text_frames.specs.declared.opened.OpenOperation.{OpenOperation}
 
 -- ---- what stands among steps
 
@@ -77,6 +78,24 @@ is_header _ b = b
 abbrev pub has_header : Trees ActionSpan → Bool
 has_header no_tree = false
 has_header (a_tree (node s ts) rest) = is_header s.action (has_header rest)
+
+-- the names in events
+abbrev pub names_in : List Event → NameTokens
+names_in es = record {
+  definitions = defined_from 0 es;
+  mentions = mentioned_from 0 es;
+  labels = labelled_from 0 es;
+  edges = label_mentioned_from 0 es;
+}
+
+-- these names, and those that an action at a token makes
+abbrev pub names_after : NameTokens → Action → ℕ → NameTokens
+names_after names a k = record {
+  definitions = names.definitions ++ defined_by a k;
+  mentions = names.mentions ++ mentioned_by a k;
+  labels = names.labels ++ labelled_by a k;
+  edges = names.edges ++ label_mentioned_by a k;
+}
 
 -- ---- frames
 
@@ -148,6 +167,15 @@ RaisesRoot says values text w root at_end ts = (p : Ptr Operation) × (t : Entit
     × (operations_in values text [] ts ≡ an_entity t no_entity) × IsMade says w p t
 RaisesRoot says values text w root at ts = operations_in values text [] ts ≡ no_entity
 
+module _ {K A T : Type 0} (says : Saying K A T) (values : Values) (text : ℕ → List ℕ) (w : PartialModule K A T) where
+  -- Of an operation: its operands and the labels of its edges by their tokens, and its regions, whose blocks are made.
+  pub record RaisesOperation (o : OpenOperation) (ts : Trees ActionSpan) : Type 0 where
+    pub operands : o.operands.items ≡ operands_in ts
+    pub mentioned : AreAmong o.operands.items w.names.mentions
+    pub labels : o.labels.items ≡ successors_in ts
+    pub labels_mentioned : AreAmong o.labels.items w.names.edges
+    pub regions : AreReadyRegions says w o.regions.items (regions_in values text ts)
+
 module _ {D K A T : Type 0} (says : Saying K A T) (values : Values) (text : ℕ → List ℕ) (w : PartialModule K A T) where
   -- The header of a block is being read: the types of its arguments are known.
   pub record IsHeader (f : Open D K A T) (at : Position) (ts : Trees ActionSpan) : Type 0 where
@@ -167,7 +195,7 @@ module _ {D K A T : Type 0} (says : Saying K A T) (values : Values) (text : ℕ 
     pub among : IsAmongOperations at (names_behind [] ts)
     pub header : has_header ts ≡ true
     pub names : result_names [] ts ≡ names_behind [] ts
-    pub block : IsOpenBlock says w p (text f.first) (arguments_in values text 0 ts) (operations_in values text [] ts)
+    pub block : IsOpenBlock says w p f.first (text f.first) (arguments_in values text 0 ts) (operations_in values text [] ts)
 
   -- Of a block: what is known of its header, or what is made of it.
   abbrev pub RaisesBlock : Option (Ptr BasicBlock) → Open D K A T → Position → Trees ActionSpan → Type 0
@@ -176,9 +204,9 @@ module _ {D K A T : Type 0} (says : Saying K A T) (values : Values) (text : ℕ 
 
   -- What is made of these trees in a body.
   abbrev pub Raises : Body D K A T → Open D K A T → Position → Trees ActionSpan → Type 0
-  Raises (body.Operands ks) f at ts = AreAmong ks.items w.mentions
-  Raises (body.Operation o) f at ts = (o.operands.items ≡ operands_in ts) × AreAmong o.operands.items w.mentions
-      × AreReadyRegions says w o.regions.items (regions_in values text ts)
+  Raises (body.Operands ks) f at ts = AreAmong ks.items w.names.mentions
+  Raises (body.Successor ks) f at ts = AreAmong ks.items w.names.mentions × AreAmong (f.first ∷ []) w.names.edges
+  Raises (body.Operation o) f at ts = RaisesOperation says values text w o ts
   Raises (body.Region bs) f at ts = AreReady says w bs.items (blocks_in values text ts)
   Raises (body.Block b) f at ts = RaisesBlock b.block f at ts
   Raises b f at ts = Unit {0}
@@ -186,7 +214,7 @@ module _ {D K A T : Type 0} (says : Saying K A T) (values : Values) (text : ℕ 
   -- of what is open at a position: what is made of its trees, and the numbers of what is named in it and isn't made yet
   pub record IsRaised (f : Open D K A T) (at : Position) (ts : Trees ActionSpan) : Type 0 where
     pub made : Raises f.body f at ts
-    pub numbered : Pairs (λ n k. slice_get w.tokens n ≡ Some k) f.numbers.items (named_tokens at ts)
+    pub numbered : Pairs (λ n k. slice_get w.names.definitions n ≡ Some k) f.numbers.items (named_tokens at ts)
 
   -- The same of all that is open, the innermost first.
   abbrev pub RaisesAll : Option (Ptr Operation) → Open D K A T → Position → Trees ActionSpan → List (Open D K A T)
@@ -197,23 +225,27 @@ module _ {D K A T : Type 0} (says : Saying K A T) (values : Values) (text : ℕ 
       × RaisesAll root g (begun_at next) o.before gs os more
   RaisesAll root f at ts _ _ _ = ⊥
 
--- The operations that wait for their operands have come since the start, each is there once, and they have none yet.
-pub record AreWaiting {K A T : Type 0} (start s : Seen K A T) (pending : List Pending) (mentions : List ℕ) :
+-- The operations that wait for their operands and successors have come since the start, each is there once, and they have none
+-- yet. Their tokens are among those of names.
+pub record AreWaiting {K A T : Type 0} (start s : Seen K A T) (pending : List Pending) (names : NameTokens) :
     Type 0 where
   pub once : AreDistinctHandles (map (λ x. x.op) pending)
   pub there : (i : ℕ) (x : Pending) → slice_get pending i ≡ Some x → IsSome (s.operation x.op)
   pub came : (i : ℕ) (x : Pending) → slice_get pending i ≡ Some x → start.operation x.op ≡ None
   pub empty : (i : ℕ) (x : Pending) → slice_get pending i ≡ Some x → operands_of s x.op ≡ []
-  pub among : (i : ℕ) (x : Pending) → slice_get pending i ≡ Some x → AreAmong x.tokens mentions
+  pub no_successors : (i : ℕ) (x : Pending) → slice_get pending i ≡ Some x → successors_of s x.op ≡ []
+  pub among : (i : ℕ) (x : Pending) → slice_get pending i ≡ Some x → AreAmong x.tokens names.mentions
+  pub labels_among : (i : ℕ) (x : Pending) → slice_get pending i ≡ Some x → AreAmong x.labels names.edges
 
 -- All that has come since the start is inside these things, which are in no list.
 pub record HoldsAllNew {K A T : Type 0} (start s : Seen K A T) (things : List IRNode) : Type 0 where
   pub loose : AreLoose s things
   pub came : CameSince start s things
 
--- What a text has become but for its operands, since a start, at which the next value had the first of these numbers,
--- and has the second now: the root has the tree that is built, and is in no block; each definition has a value with a
--- number of its own below the counter, which has moved on by their number; and the operations wait for their operands.
+-- What a text has become but for its operands and successors, since a start, at which the next value had the first of these
+-- numbers, and has the second now: the root has the tree that is built, and is in no block; each definition has a value with a
+-- number of its own below the counter, which has moved on by their number; each label has a block; and the operations wait for
+-- their operands and successors.
 pub record IsAssembled {K A T : Type 0} (says : Saying K A T) (values : Values) (text : ℕ → List ℕ)
     (start s : Seen K A T) (first next : ℕ) (a : Assembly) (es : List Event) : Type 0 where
   pub root : Ptr Operation
@@ -223,8 +255,8 @@ pub record IsAssembled {K A T : Type 0} (says : Saying K A T) (values : Values) 
   pub made : IsMade says (record {
     ctx = s;
     values = a.values.items;
-    tokens = defined_from 0 es;
-    mentions = mentioned_from 0 es;
+    blocks = a.blocks.items;
+    names = names_in es;
     pending = a.pending.items;
   }) root tree
   pub many : length (defined_from 0 es) ≡ length a.values.items
@@ -233,5 +265,7 @@ pub record IsAssembled {K A T : Type 0} (says : Saying K A T) (values : Values) 
   pub distinct : (i j : ℕ) (v w : Value) → slice_get a.values.items i ≡ Some (Some v)
       → slice_get a.values.items j ≡ Some (Some w) → v.number ≡ w.number → i ≡ j
   pub counted : next ≡ first + length a.values.items
-  pub operands : AreWaiting start s a.pending.items (mentioned_from 0 es)
+  pub many_blocks : length (labelled_from 0 es) ≡ length a.blocks.items
+  pub blocks_there : (n : ℕ) (b : Ptr BasicBlock) → slice_get a.blocks.items n ≡ Some b → IsDefinedBlock s b
+  pub operands : AreWaiting start s a.pending.items (names_in es)
   pub things : a.loose.items ≡ OperationNode root ∷ []

@@ -66,8 +66,10 @@ pub struct Content<D: Dialects> {
 pub struct OpenOperation {
     /// The number of its kind.
     pub kind: u8,
-    /// The tokens that name its operands.
+    /// The tokens that name its operands, those that edges hand on among them.
     pub operands: Vec<usize>,
+    /// The tokens of the labels of its edges.
+    pub labels: Vec<usize>,
     /// The blocks of each of its regions.
     pub regions: Vec<Vec<Ptr<BasicBlock>>>,
 }
@@ -93,6 +95,8 @@ pub enum Body<D: Dialects> {
     Operation(OpenOperation),
     /// Operands, by the tokens that name them.
     Operands(Vec<usize>),
+    /// An edge, by the tokens of the operands that it hands on. It begins at the token of its label.
+    Successor(Vec<usize>),
     /// A region, with its blocks.
     Region(Vec<Ptr<BasicBlock>>),
     Block(OpenBlock),

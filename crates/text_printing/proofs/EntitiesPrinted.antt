@@ -18,9 +18,8 @@ use Rattle.ir_print.specs.Pieces.{Pieces, Values, operation, a_region, block, en
 use Rattle.ir_print.specs.Shapes.{SaysOperations}
 use Rattle.ir_print.specs.Shown.{Saying, Said, ShowsAll, ShowsParts, Pairs}
 use Rattle.text_dialect.specs.Seen.{SeenOperation, SeenBlock, Seen, types_of}
-use Rattle.text_dialect.specs.Standing.{HasDefinition}
-use Rattle.text_dialect.specs.Printed.{IsValueName, block_name, label_front}
-use Rattle.text_printing.specs.Added.{AddsResultList, AddsOperationHead, AddsArgumentList, AddsBlockHead, AddsOperation, AddsRegion, AddsBlock, PrintsRegions, PrintsBlocks, PrintsOperations}
+use Rattle.text_dialect.specs.Printed.{IsValueName, block_name, label_front, printed_names}
+use Rattle.text_printing.specs.Added.{HasName, printed_block, AddsResultList, AddsOperationHead, AddsArgumentList, AddsBlockHead, AddsOperation, AddsRegion, AddsBlock, PrintsRegions, PrintsBlocks, PrintsOperations}
 use Rattle.text_printing.specs.PartPrinted.{AreLeft, AddsOperationParts}
 use Rattle.text_printing.specs.Printing.{AddsText}
 use Rattle.text_printing.proofs.Owed.{Owed, wrote}
@@ -40,16 +39,16 @@ module _ {K A T : Type 0} (says : Saying K A T) (f : Formats) (s : Seen K A T) (
       ((k : ℕ) → slice_get f.operations k ≡ option_map text (kind_at k)) →
       ((kind : K) (entries : List (List ℕ × A)) (count : ℕ) (tys : List TypeHandle) (k : ℕ) (us : Trees (Said A)) →
       says.of_operation kind entries count tys ≡ Some (k, us) → kind_at k ≡ Some kind) →
-      (kind : K) (results : List TypedValue) (values : List Value) (its_regions : List (Ptr Region)) →
-      IsOperationRead s op kind results values its_regions →
+      (kind : K) (results : List TypedValue) (values : List Value) (its_successors : List (Ptr BasicBlock))
+      (its_regions : List (Ptr Region)) → IsOperationRead s op kind results values its_successors its_regions →
       (parts : List (Part D K A T)) (format : Steps) (a b c : List ℕ) →
       AddsOperationHead says f s.types results (text kind).id a b → format ≡ (text kind).format →
       ((types : List T) → (o : SeenOperation K A) → (k : ℕ) → (us : Trees (Said A)) → (ps : Pieces) → s.operation op ≡ Some o →
       says.of_operation o.kind o.attributes (length o.operands) (types_of o.results) ≡ Some (k, us) →
       ShowsAll says types us ps → ShowsParts says types parts ps) →
-      AddsOperationParts says s values its_regions left f n format parts b c → AddsOperation says s f n left op a c
-  operation_printed v op kind_at text little law tie kinds kind results values its_regions read parts format a b c print_head
-      g shows print (entity (operation k rs used pieces) ts) rest h q =
+      AddsOperationParts says s values its_successors its_regions left f n format parts b c → AddsOperation says s f n left op a c
+  operation_printed v op kind_at text little law tie kinds kind results values its_successors its_regions read parts format a b c print_head
+      g shows print (entity (operation k rs used successors pieces) ts) rest h q =
       let o = h.0 in
       let at : s.operation op ≡ Some o = h.1 in
       let head = h.2 in
@@ -58,22 +57,23 @@ module _ {K A T : Type 0} (says : Saying K A T) (f : Formats) (s : Seen K A T) (
       let ek : Some o.kind ≡ Some kind = ap Some was.kind in
       let et : slice_get f.operations k ≡ Some (text kind) =
       tie k ∙ ap (option_map text) (kinds o.kind o.attributes (length o.operands) (types_of o.results) k head.said head.says_it ∙ ek) in
-      let ps = all_parts_on f pieces used (regions_on f n ts) in
-      let left_over : AreLeft says s values its_regions left 0 0 used ts = record {
+      let ps = all_parts_on f pieces used successors (regions_on f n ts) in
+      let left_over : AreLeft says s values its_successors its_regions left 0 0 0 used successors ts = record {
         operands = subst (λ vs. Pairs IsValueName vs used) was.operands head.mentions;
+        successors = subst (λ bs. Pairs (printed_names s).block bs successors) was.successors head.goes_on;
         regions = subst (λ vs. PrintsRegions says s vs ts) was.regions h.3;
         shallow = q.1;
       } in
       subst (λ y. AddsText b c rest (format_on an_id y ps rest)) g
-      (print pieces used ts rest (shows s.types o k head.said pieces at head.says_it head.shown) q.0
+      (print pieces used successors ts rest (shows s.types o k head.said pieces at head.says_it head.shown) q.0
       (readable says s.types 64 x.kind.format head.said pieces (operation_nested f little k x.kind x.at) x.shaped head.shown) left_over)
       ∙ print_head rs (format_on an_id (text kind).format ps rest)
-      (subst (λ ds. Pairs (HasDefinition says IsValueName s.types) ds rs) was.results head.defines)
+      (subst (λ ds. Pairs (HasName says s.types) ds rs) was.results head.defines)
       ∙ ap (λ k. a ++ spell (results_on rs (kind_on k ps rest))) (sym et)
-  operation_printed v op kind_at text little law tie kinds kind results values its_regions read parts format a b c print_head
+  operation_printed v op kind_at text little law tie kinds kind results values its_successors its_regions read parts format a b c print_head
       g shows print (entity a_region ts) rest h q = absurd h
-  operation_printed v op kind_at text little law tie kinds kind results values its_regions read parts format a b c print_head
-      g shows print (entity (block label arguments) ts) rest h q = absurd h
+  operation_printed v op kind_at text little law tie kinds kind results values its_successors its_regions read parts format a b c print_head
+      g shows print (entity (block named label arguments) ts) rest h q = absurd h
 
   -- there is nothing between two blocks
   pub any_first : (b : Bool) {all left_over : List (Ptr BasicBlock)} {old now : List ℕ} →
@@ -96,8 +96,8 @@ module _ {K A T : Type 0} (says : Saying K A T) (f : Formats) (s : Seen K A T) (
       ∙ print ts tail (each_block says s f (n + 2) left blocks ts shown k)
       ∙ wrote a b (line n ++ codes "{") (spell (blocks_on f (n + 2) ts tail)) opened
       ∙ ap (λ x. a ++ x) (append_assoc (line n) (codes "{") (spell (blocks_on f (n + 2) ts tail)))
-  region_lines r blocks read a b c d opened print closed (operation kind results used pieces) ts rest h k = absurd h
-  region_lines r blocks read a b c d opened print closed (block label arguments) ts rest h k = absurd h
+  region_lines r blocks read a b c d opened print closed (operation kind results used successors pieces) ts rest h k = absurd h
+  region_lines r blocks read a b c d opened print closed (block named label arguments) ts rest h k = absurd h
 
   -- the head of a block is printed by its label and its arguments
   pub block_head_lines : (bl : Ptr BasicBlock) (arguments : List TypedValue) (a b c d e g : List ℕ) → b ≡ a ++ codes "^" →
@@ -118,15 +118,15 @@ module _ {K A T : Type 0} (says : Saying K A T) (f : Formats) (s : Seen K A T) (
       ((ts : Entities (List ℕ)) (rest : List Chunk) → Each (ShallowOperation says s f (n + 2) left) operations ts →
       AddsText b c rest (operations_on f (n + 2) ts rest)) →
       AddsBlock says s f n left bl a c
-  block_lines bl arguments operations read a b c head ops (entity (block label xs) ts) rest h k =
+  block_lines bl arguments operations read a b c head ops (entity (block named label xs) ts) rest h k =
       let v = h.0 in
       let was = read v h.1 in
       let tail = operations_on f (n + 2) ts rest in
       let own = block_name (label_front v.label) bl.key.slot bl.key.version in
       let front : own ≡ label = sym h.2 in
       ops ts rest (each_operation says s f (n + 2) left operations ts
-      (subst (λ ps. PrintsOperations says s ps ts) was.1 h.4) k.1)
-      ∙ head v xs tail h.1 (subst (λ ds. Pairs (HasDefinition says IsValueName s.types) ds xs) was.0 h.3) k.0
-      ∙ ap (λ y. a ++ spell (block_head_on f (block y xs) tail)) front
+      (subst (λ ps. PrintsOperations says s ps ts) was.1 h.5) k.1)
+      ∙ head v xs tail h.1 (subst (λ ds. Pairs (HasName says s.types) ds xs) was.0 h.4) k.0
+      ∙ ap (λ y. a ++ spell (block_head_on f (printed_block y xs) tail)) front
   block_lines bl arguments operations read a b c head ops (entity a_region ts) rest h k = absurd h
-  block_lines bl arguments operations read a b c head ops (entity (operation kind results used pieces) ts) rest h k = absurd h
+  block_lines bl arguments operations read a b c head ops (entity (operation kind results used successors pieces) ts) rest h k = absurd h

@@ -1,10 +1,10 @@
 -- What each directive stands for.
 use Rattle.std.proofs.Common.{◌≡◌, ap, sym, ◌∙◌, List, ℕ, Bor}
 use Rattle.std.specs.Str.{trim}
-use Rattle.ir_print.specs.Formats.{steps_of, step_of, Step, step_by, word, operands, operand, an_attribute, a_type, a_region, symbol_name, a_name, a_number, a_width, list_of}
+use Rattle.ir_print.specs.Formats.{steps_of, step_of, Step, step_by, word, operands, operand, successor, an_attribute, a_type, a_region, symbol_name, a_name, a_number, a_width, list_of}
 use Rattle.ir_print.specs.declared.format.Directive.{Directive, Directive-F, fold-Directive, fold-roll-Directive}
 use Rattle.ir_print.specs.declared.format.Directive as directive
-use Rattle.ir_print.specs.declared.format.Directive.TheVariants.{rolls-List, rolls-Literal, rolls-Operands, rolls-Operand, rolls-Attribute, rolls-Type, rolls-Region, rolls-SymbolHeader, rolls-Name, rolls-Number, rolls-Width}
+use Rattle.ir_print.specs.declared.format.Directive.TheVariants.{rolls-List, rolls-Literal, rolls-Operands, rolls-Operand, rolls-Successor, rolls-Attribute, rolls-Type, rolls-Region, rolls-SymbolHeader, rolls-Name, rolls-Number, rolls-Width}
 
 pub step_of-Literal : (text : Bor (List ℕ)) → step_of (directive.Literal text) ≡ word text.now (trim text.now)
 step_of-Literal text = ap step_of (sym (rolls-Literal text)) ∙ fold-roll-Directive Step step_by (Directive-F.Literal text)
@@ -17,6 +17,9 @@ step_of-Operands = ap step_of (sym rolls-Operands) ∙ fold-roll-Directive Step 
 
 pub step_of-Operand : step_of directive.Operand ≡ operand
 step_of-Operand = ap step_of (sym rolls-Operand) ∙ fold-roll-Directive Step step_by Directive-F.Operand
+
+pub step_of-Successor : step_of directive.Successor ≡ successor
+step_of-Successor = ap step_of (sym rolls-Successor) ∙ fold-roll-Directive Step step_by Directive-F.Successor
 
 pub step_of-Attribute : step_of directive.Attribute ≡ an_attribute
 step_of-Attribute = ap step_of (sym rolls-Attribute) ∙ fold-roll-Directive Step step_by Directive-F.Attribute
@@ -40,4 +43,4 @@ pub step_of-Width : step_of directive.Width ≡ a_width
 step_of-Width = ap step_of (sym rolls-Width) ∙ fold-roll-Directive Step step_by Directive-F.Width
 
 -- what the directives of a format stand for
-pub ruleset step_rules = (step_of-Literal, step_of-List, step_of-Operands, step_of-Operand, step_of-Attribute, step_of-Type, step_of-Region, step_of-SymbolHeader, step_of-Name, step_of-Number, step_of-Width)
+pub ruleset step_rules = (step_of-Literal, step_of-List, step_of-Operands, step_of-Operand, step_of-Successor, step_of-Attribute, step_of-Type, step_of-Region, step_of-SymbolHeader, step_of-Name, step_of-Number, step_of-Width)

@@ -7,13 +7,13 @@ use Rattle.ir_names.specs.Tree.{LabelledTree, Trees, node, label_of}
 use Rattle.ir_print.specs.Formats.{Formats, Kind, Step, Steps, list_of}
 use Rattle.ir_print.specs.Layout.{Chunk, spell, an_id, Printer, piece_on, type_on, parts_on, format_on, kind_on, members_on, Deeper, IsFlat, AreFlat}
 use Rattle.ir_print.specs.Nested.{is_nested_little}
-use Rattle.ir_print.specs.Pieces.{Piece, type_of_kind, attribute_of_kind, list, item, operands, region, name, number, width, ValueTree, Pieces, Values}
+use Rattle.ir_print.specs.Pieces.{Piece, type_of_kind, attribute_of_kind, list, item, operands, successor, region, name, number, width, ValueTree, Pieces, Values}
 use Rattle.text_printing.specs.Printing.{AddsText, IsReadable, AreReadable}
 use Rattle.ir_print.specs.Shapes.{SaysTypes, SaysAttributes}
-use Rattle.ir_print.specs.Shown.{Saying, Shows, ShowsAll, ShowsKey, ShowsPart, ShowsParts, ShowsMembers, ShowsType, ShowsAttribute, IsKindOf, leaf, Said, said_type, said_attribute, said_list, said_item, said_operands, said_region, said_name, said_number, said_width}
+use Rattle.ir_print.specs.Shown.{Saying, Shows, ShowsAll, ShowsKey, ShowsPart, ShowsParts, ShowsMembers, ShowsType, ShowsAttribute, IsKindOf, leaf, Said, said_type, said_attribute, said_list, said_item, said_operands, said_successor, said_region, said_name, said_number, said_width}
 use Rattle.ir_print.specs.declared.format.Part.{Part, Part-F, out-Part}
 use Rattle.ir_print.specs.declared.format.Part.TheVariants as part
-use Rattle.ir_print.specs.declared.format.Part.TheVariants.{outs-Operands, outs-Attribute, outs-Type, outs-Region, outs-Name, outs-Number, outs-Width, outs-List}
+use Rattle.ir_print.specs.declared.format.Part.TheVariants.{outs-Operands, outs-Successor, outs-Attribute, outs-Type, outs-Region, outs-Name, outs-Number, outs-Width, outs-List}
 use Rattle.text_printing.proofs.ListOwed.{no_members}
 use Rattle.text_printing.proofs.Owed.{wrote}
 use Rattle.text_printing.proofs.Readable.{readable, type_nested, attribute_nested}
@@ -26,6 +26,7 @@ sort_of (attribute_of_kind n) = 1
 sort_of list = 2
 sort_of item = 3
 sort_of (operands n) = 4
+sort_of (successor n) = 9
 sort_of region = 5
 sort_of (name cs) = 6
 sort_of (number negative magnitude) = 7
@@ -38,6 +39,7 @@ said_sort (said_attribute a) = 1
 said_sort said_list = 2
 said_sort said_item = 3
 said_sort (said_operands n) = 4
+said_sort (said_successor n) = 9
 said_sort said_region = 5
 said_sort (said_name cs) = 6
 said_sort (said_number negative magnitude) = 7
@@ -48,6 +50,7 @@ part_sort (Part-F.Type ty) = 0
 part_sort (Part-F.Attribute a) = 1
 part_sort (Part-F.List ms) = 2
 part_sort (Part-F.Operands n) = 4
+part_sort (Part-F.Successor n) = 9
 part_sort Part-F.Region = 5
 part_sort (Part-F.Name id) = 6
 part_sort (Part-F.Number o) = 7
@@ -60,6 +63,7 @@ module _ {K A T : Type 0} (says : Saying K A T) (types : List T) where
   said_sorts x list ts h = ap (λ y. said_sort (label_of y)) h.1
   said_sorts x item ts h = ap (λ y. said_sort (label_of y)) h.1
   said_sorts x (operands n) ts h = ap (λ y. said_sort (label_of y)) h
+  said_sorts x (successor n) ts h = ap (λ y. said_sort (label_of y)) h
   said_sorts x region ts h = ap (λ y. said_sort (label_of y)) h
   said_sorts x (name cs) ts h = ap (λ y. said_sort (label_of y)) h
   said_sorts x (number negative magnitude) ts h = ap (λ y. said_sort (label_of y)) h
@@ -130,6 +134,7 @@ module _ {D K A T : Type 0} (says : Saying K A T) (types : List T) where
   part_sorts p list ts h = ap sort_in h.1 ∙ ap part_sort (outs-List h.0)
   part_sorts p item ts h = absurd h
   part_sorts p (operands n) ts h = ap sort_in h ∙ ap part_sort (outs-Operands n)
+  part_sorts p (successor n) ts h = ap sort_in h ∙ ap part_sort (outs-Successor n)
   part_sorts p region ts h = ap sort_in h ∙ ap part_sort outs-Region
   part_sorts p (name cs) ts h = ap sort_in h.1 ∙ ap part_sort (outs-Name h.0)
   part_sorts p (number negative magnitude) ts h = ap sort_in h.1 ∙ ap part_sort (outs-Number h.0)

@@ -9,7 +9,7 @@ use Rattle.ir_program.specs.declared.handles.BasicBlock.{BasicBlock}
 use Rattle.ir_program.specs.declared.handles.Value.{Value}
 use Rattle.ir_program.specs.Lists.{operations_in, blocks_in, regions_in}
 use Rattle.ir_program.specs.Program.{TypedValue, RegionView, operation_at, block_at, region_at, results_at, arguments_at}
-use Rattle.ir_program.specs.Rows.{operands_at}
+use Rattle.ir_program.specs.Rows.{operands_at, successors_at}
 use Rattle.ir_context.specs.Kept.{kind_at, label_at}
 use Rattle.ir_context.specs.Views.{ContextView}
 use Rattle.ir_context.specs.declared.notes.OperationData.{OperationData}
@@ -17,28 +17,31 @@ use Rattle.ir_context.specs.declared.notes.BlockNotes.{BlockNotes}
 use Rattle.text_dialect.specs.Seen.{SeenOperation, SeenBlock, Seen, seen, seen_operation, seen_block}
 use Rattle.text_printing.proofs.Owed.{found}
 
--- an operation is of this kind, and has these results, operands and regions
+-- an operation is of this kind, and has these results, operands, successors and regions
 pub record HasRows {K A : Type 0} (o : SeenOperation K A) (k : K) (rs : List TypedValue) (vs : List Value)
-    (gs : List (Ptr Region)) : Type 0 where
+    (bs : List (Ptr BasicBlock)) (gs : List (Ptr Region)) : Type 0 where
   pub kind : o.kind ≡ k
   pub results : o.results ≡ rs
   pub operands : o.operands ≡ vs
+  pub successors : o.successors ≡ bs
   pub regions : o.regions ≡ gs
 
 -- the same of the one under a handle
 pub record IsOperationRead {K A T : Type 0} (s : Seen K A T) (op : Ptr Operation) (kind : K) (results : List TypedValue)
-    (operands : List Value) (regions : List (Ptr Region)) : Type 0 where
-  pub read : (o : SeenOperation K A) → s.operation op ≡ Some o → HasRows o kind results operands regions
+    (operands : List Value) (successors : List (Ptr BasicBlock)) (regions : List (Ptr Region)) : Type 0 where
+  pub read : (o : SeenOperation K A) → s.operation op ≡ Some o → HasRows o kind results operands successors regions
 
 module _ {D TypeKind AttrKind TypeBody Saved Location OpKind Attr TypeKey : Type 0}
     (c : ContextView (OperationData D TypeKind AttrKind TypeBody Saved Location OpKind Attr TypeKey)
     (BlockNotes D TypeKind AttrKind TypeBody Saved Location OpKind Attr TypeKey) (TypesView TypeKey TypeBody Saved)) where
   pub operation_read : (op : Ptr Operation) (kind : OpKind) → kind_at c.program op ≡ Some kind →
-      IsOperationRead (seen c) op kind (results_at c.program op) (operands_at c.program op) (regions_in c.program op)
+      IsOperationRead (seen c) op kind (results_at c.program op) (operands_at c.program op) (successors_at c.program op)
+      (regions_in c.program op)
   operation_read op kind of = record { read = one }
     where
       one : (o : SeenOperation OpKind Attr) → (seen c).operation op ≡ Some o →
-          HasRows o kind (results_at c.program op) (operands_at c.program op) (regions_in c.program op)
+          HasRows o kind (results_at c.program op) (operands_at c.program op) (successors_at c.program op)
+          (regions_in c.program op)
       one o h =
           let w = found seen_operation (operation_at c.program op) o h in
           let ek : Some w.0.payload.kind ≡ Some kind =
@@ -48,6 +51,7 @@ module _ {D TypeKind AttrKind TypeBody Saved Location OpKind Attr TypeKey : Type
             kind = ap (λ z. z.kind) (sym w.2) ∙ inner;
             results = ap (λ z. z.results) (sym w.2) ∙ sym (ap (λ y. unwrap_or (option_map (λ z. z.results) y) []) w.1);
             operands = ap (λ z. z.operands) (sym w.2) ∙ sym (ap (λ y. unwrap_or (option_map (λ z. z.operands) y) []) w.1);
+            successors = ap (λ z. z.successors) (sym w.2) ∙ sym (ap (λ y. unwrap_or (option_map (λ z. z.successors) y) []) w.1);
             regions = ap (λ z. z.regions) (sym w.2) ∙ sym (ap (λ y. unwrap_or (option_map (λ z. z.regions) y) []) w.1);
           }
 

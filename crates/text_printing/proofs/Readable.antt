@@ -6,7 +6,7 @@ use Rattle.ir_print.specs.Formats as step
 use Rattle.ir_print.specs.Formats.{Formats, Kind, Step, Steps}
 use Rattle.ir_print.specs.Layout.{Deeper}
 use Rattle.ir_print.specs.Nested.{is_nested, are_nested, kinds_nested, is_nested_little}
-use Rattle.ir_print.specs.Pieces.{type_of_kind, attribute_of_kind, list, item, operands, region, name, number, width, ValueTree, Pieces}
+use Rattle.ir_print.specs.Pieces.{type_of_kind, attribute_of_kind, list, item, operands, successor, region, name, number, width, ValueTree, Pieces}
 use Rattle.text_printing.specs.Printing.{IsReadable, AreReadable}
 use Rattle.ir_print.specs.Shapes.{parts_in, IsListOf, IsSaidAt, AreSaidAt, AreMembersSaidAt, IsMemberSaidAt}
 use Rattle.ir_print.specs.Shown.{Saying, Shows, ShowsAll, Said, said_list, said_item}
@@ -26,6 +26,7 @@ parts_nested d step.no_steps h = tt
 parts_nested d (step.step (step.word printed text) ss) h = parts_nested d ss h
 parts_nested d (step.step step.operands ss) h = (refl, parts_nested d ss h)
 parts_nested d (step.step step.operand ss) h = (refl, parts_nested d ss h)
+parts_nested d (step.step step.successor ss) h = (refl, parts_nested d ss h)
 parts_nested d (step.step step.an_attribute ss) h = (refl, parts_nested d ss h)
 parts_nested d (step.step step.a_type ss) h = (refl, parts_nested d ss h)
 parts_nested d (step.step step.a_region ss) h = (refl, parts_nested d ss h)
@@ -50,6 +51,7 @@ module _ {K A T : Type 0} (says : Saying K A T) (types : List T) where
     readable_one d s u (node list ts) k h x = readable_list d s x.0 ts k (subst (λ y. IsSaidAt s y) x.1 h) (λ e ss n m. readable_members e ss x.0 ts n m x.2)
     readable_one d s u (node item ts) k h x = let o : IsSaidAt s (node said_item x.0) = subst (λ y. IsSaidAt s y) x.1 h in absurd o
     readable_one d s u (node (operands n) ts) k h x = tt
+    readable_one d s u (node (successor n) ts) k h x = tt
     readable_one d s u (node region ts) k h x = tt
     readable_one d s u (node (name cs) ts) k h x = tt
     readable_one d s u (node (number negative magnitude) ts) k h x = (subst (λ y. IsSaidAt s y) x h).1
@@ -73,6 +75,7 @@ module _ {K A T : Type 0} (says : Saying K A T) (types : List T) where
     readable_member d ss u (node list ts) k h x = let o : IsMemberSaidAt ss (node said_list x.0) = subst (λ y. IsMemberSaidAt ss y) x.1 h in absurd o
     readable_member d ss u (node item ts) k h x = readable_parts d ss x.0 ts k (subst (λ y. IsMemberSaidAt ss y) x.1 h) x.2
     readable_member d ss u (node (operands n) ts) k h x = tt
+    readable_member d ss u (node (successor n) ts) k h x = tt
     readable_member d ss u (node region ts) k h x = tt
     readable_member d ss u (node (name cs) ts) k h x = tt
     readable_member d ss u (node (number negative magnitude) ts) k h x = absurd (subst (λ y. IsMemberSaidAt ss y) x h)

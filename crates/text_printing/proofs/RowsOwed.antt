@@ -13,9 +13,8 @@ use Rattle.ir_print.specs.Layout.{Chunk, token, word, white, spell, line, type_o
 use Rattle.ir_print.specs.Pieces.{ValueTree, Entity, Entities, no_entity, an_entity}
 use Rattle.ir_print.specs.Shown.{Saying, Pairs, ShowsType}
 use Rattle.text_dialect.specs.Seen.{Seen}
-use Rattle.text_dialect.specs.Standing.{HasDefinition}
 use Rattle.text_dialect.specs.Printed.{PrintsAs, IsValueName, value_name}
-use Rattle.text_printing.specs.Added.{AddsType, AddsOperation, AddsBlock, PrintsBlock, PrintsBlocks, PrintsOperations}
+use Rattle.text_printing.specs.Added.{HasName, AddsType, AddsOperation, AddsBlock, PrintsBlock, PrintsBlocks, PrintsOperations}
 use Rattle.text_printing.specs.Printing.{AddsText, next_line}
 use Rattle.text_printing.proofs.Owed.{IsRow, Prints, wrote}
 
@@ -74,23 +73,19 @@ abbrev pub results_left : Bool → List (List ℕ × ValueTree) → List Chunk �
 results_left b rs rest = names_left b (map (λ x. x.0) rs) rest
 
 module _ {K A T : Type 0} (says : Saying K A T) (types : List T) where
-  -- a result or an argument with the name that is printed
-  abbrev pub HasName : TypedValue → List ℕ × ValueTree → Type 0
-  HasName d x = HasDefinition says IsValueName types d x
-
-  pub results_row : IsRow HasName (Pairs HasName) results_left (λ u rest. name_then u.0 rest) (codes ", ")
+  pub results_row : IsRow (HasName says types) (Pairs (HasName says types)) results_left (λ u rest. name_then u.0 rest) (codes ", ")
   results_row =
-      pairs_row HasName results_left (λ u rest. name_then u.0 rest) (codes ", ") (elim [ true ↦ λ rest. refl | false ↦ λ rest. refl ])
+      pairs_row (HasName says types) results_left (λ u rest. name_then u.0 rest) (codes ", ") (elim [ true ↦ λ rest. refl | false ↦ λ rest. refl ])
       (λ u us. elim [ true ↦ λ rest. refl | false ↦ λ rest. refl ])
 
   pub result_printed : (d : TypedValue) (v : Value) (a b : List ℕ) → d.value ≡ v → b ≡ a ++ value_name v.number →
-      Prints HasName (λ u rest. name_then u.0 rest) d a b
+      Prints (HasName says types) (λ u rest. name_then u.0 rest) d a b
   result_printed d v a b ev e u rest h = name_printed v a b e u.0 rest (h.0 ∙ ap (λ x. value_name x.number) ev)
 
   -- results, and `=` behind them
   pub all_results : (ds : List TypedValue) (a b c : List ℕ) → 0 < length ds →
-      ((rs : List (List ℕ × ValueTree)) (rest : List Chunk) → Pairs HasName ds rs → AddsText a b rest (results_left true rs rest)) →
-      c ≡ b ++ codes " = " → (rs : List (List ℕ × ValueTree)) (rest : List Chunk) → Pairs HasName ds rs →
+      ((rs : List (List ℕ × ValueTree)) (rest : List Chunk) → Pairs (HasName says types) ds rs → AddsText a b rest (results_left true rs rest)) →
+      c ≡ b ++ codes " = " → (rs : List (List ℕ × ValueTree)) (rest : List Chunk) → Pairs (HasName says types) ds rs →
       AddsText a c rest (results_on rs rest)
   all_results [] a b c lt print e rs rest h = absurd (omega arith)
   all_results (d ∷ ds) a b c lt print e [] rest h = absurd h
@@ -100,7 +95,7 @@ module _ {K A T : Type 0} (says : Saying K A T) (types : List T) where
   module _ (f : Formats) (left : ℕ) where
     -- an argument whose type can be printed
     abbrev pub HasFlat : TypedValue → List ℕ × ValueTree → Type 0
-    HasFlat d x = HasName d x × IsFlat left x.1
+    HasFlat d x = HasName says types d x × IsFlat left x.1
 
     -- arguments, as the first or behind others
     abbrev pub arguments_left : Bool → List (List ℕ × ValueTree) → List Chunk → List Chunk
@@ -112,7 +107,7 @@ module _ {K A T : Type 0} (says : Saying K A T) (types : List T) where
         pairs_row HasFlat arguments_left (argument_on f) (codes ", ") (elim [ true ↦ λ rest. refl | false ↦ λ rest. refl ])
         (λ u us. elim [ true ↦ λ rest. refl | false ↦ λ rest. refl ])
 
-    pub flat_pairs : (ds : List TypedValue) (xs : List (List ℕ × ValueTree)) → Pairs HasName ds xs → AreFlatArguments left xs →
+    pub flat_pairs : (ds : List TypedValue) (xs : List (List ℕ × ValueTree)) → Pairs (HasName says types) ds xs → AreFlatArguments left xs →
         Pairs HasFlat ds xs
     flat_pairs [] [] h k = tt
     flat_pairs [] (x ∷ xs) h k = absurd h

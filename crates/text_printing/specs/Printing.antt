@@ -5,7 +5,7 @@ use Rattle.ir_names.specs.declared.kinds.Signedness.{Signedness}
 use Rattle.ir_print.specs.declared.format.Number.{Number}
 use Rattle.ir_print.specs.Formats.{Step}
 use Rattle.ir_print.specs.Layout.{Chunk, spell, line, Before, an_id, a_word, a_part, Deeper, name_on, number_text, width_text}
-use Rattle.ir_print.specs.Pieces.{type_of_kind, attribute_of_kind, list, item, operands, region, name, number, width, ValueTree, Pieces}
+use Rattle.ir_print.specs.Pieces.{type_of_kind, attribute_of_kind, list, item, operands, successor, region, name, number, width, ValueTree, Pieces}
 use Rattle.ir_print.specs.Shown.{IsNumber, IsWidth}
 use Rattle.text_printing.specs.declared.words.Before as code
 use Rattle.text_printing.specs.declared.words.Before.TheVariants as code_before
@@ -49,6 +49,7 @@ abbrev mutual
   IsReadable d (node list ts) = Deeper d (λ e. AreReadable e ts)
   IsReadable d (node item ts) = AreReadable d ts
   IsReadable d (node (operands n) ts) = Unit {0}
+  IsReadable d (node (successor n) ts) = Unit {0}
   IsReadable d (node region ts) = Unit {0}
   IsReadable d (node (name cs) ts) = Unit {0}
   IsReadable d (node (number negative magnitude) ts) = magnitude < 2 ^ 64

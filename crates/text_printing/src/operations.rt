@@ -8,10 +8,10 @@ ghost use Rattle.ir_print.specs.Pieces.{Entity};
 ghost use Rattle.ir_print.specs.declared.format.Part.TheVariants as piece;
 ghost use Rattle.ir_program.specs.Lists.{regions_in};
 ghost use Rattle.ir_program.specs.Program.{operation_at, block_at, region_at, results_at, arguments_at};
-ghost use Rattle.ir_program.specs.Rows.{operands_at};
+ghost use Rattle.ir_program.specs.Rows.{operands_at, successors_at};
 ghost use Rattle.text_dialect.specs.Printed.{PrintsAs, block_name, label_front};
 ghost use Rattle.text_dialect.specs.Seen.{seen};
-ghost use Rattle.text_printing.specs.Added.{AddsResultList, AddsOperandNames, AddsArgumentList, AddsOperationHead, AddsBlockHead, AddsOperation, AddsRegion, AddsBlock};
+ghost use Rattle.text_printing.specs.Added.{AddsResultList, AddsOperandNames, AddsEdge, AddsArgumentList, AddsOperationHead, AddsBlockHead, AddsOperation, AddsRegion, AddsBlock};
 ghost use Rattle.text_printing.specs.PartPrinted.{PartPrinted, AddsOperationParts};
 ghost use Rattle.text_printing.specs.Printing.{before_of, next_line};
 
@@ -19,6 +19,7 @@ use crate::values::{LISTS, print_part, print_type};
 use crate::words::{Before, print_gap, print_line, print_literal, print_value};
 use ir_context::{
     BlockCalls, ContainsBlocks, ContainsOperations, Context, OperandCalls, OperationCalls,
+    SuccessorCalls,
 };
 use ir_print::{Directive, Part};
 use ir_program::{BasicBlock, Operation, Ptr, Region};
@@ -31,7 +32,7 @@ const DEEPEST: u32 = 64;
 /// The text of an operation with all that stands in it, without a line end behind it.
 ///
 /// What stands deeper than 64 regions, types and attributes in one another may be left out, as no text has it. Nothing is
-/// promised of an operation that has no tree of texts, as one with successors.
+/// promised of an operation that has no tree of texts.
 ///
 /// # Errors
 /// Without memory.
@@ -138,6 +139,32 @@ fn print_label<D: TextDialect>(
     Ok(())
 }
 
+/// `^LABEL(v1, v2)`: the successor of an operation at an index, if there is one, and the operands that it hands on, from one on,
+/// up to another.
+fn print_successor<D: TextDialect>(
+    ctx: &Context<D>,
+    out: &mut String,
+    op: Ptr<Operation>,
+    index: usize,
+    from: usize,
+    to: usize,
+) -> Result<(), AllocError>
+    requires live { IsSome (operation_at ctx.now.program op) }
+    requires ordered { from ≤ to }
+    requires within { to ≤ length (operands_at ctx.now.program op) }
+    ensures { OnOk result (AddsEdge D.says (seen ctx.now) (drop index (successors_at ctx.now.program op))
+        (drop from (take to (operands_at ctx.now.program op))) (string_bytes out.old) (string_bytes out.new)) }
+{
+    if index >= op.get_num_successors(ctx) {
+        return Ok(());
+    }
+    out.push_str("^")?;
+    print_label(ctx, out, op.get_successor(ctx, index))?;
+    out.push_str("(")?;
+    print_operands(ctx, out, op, from, to)?;
+    out.push_str(")")
+}
+
 /// The arguments of a block, with their types.
 fn print_arguments<D: TextDialect>(
     alloc: Global,
@@ -205,20 +232,23 @@ fn print_next_line(out: &mut String, is_first: bool, indent: usize) -> Result<()
 #[derive(Clone, Copy)]
 struct Progress {
     before: Before,
-    /// So many operands and regions have been printed.
+    /// So many operands, edges and regions have been printed.
     operands: usize,
+    successors: usize,
     regions: usize,
 }
 
 /// Behind a part that is printed.
-fn behind_part(operands: usize, regions: usize) -> Progress
+fn behind_part(operands: usize, successors: usize, regions: usize) -> Progress
     ensures before { before_of result.before ≡ a_part }
     ensures operands { result.operands ≡ operands }
+    ensures successors { result.successors ≡ successors }
     ensures regions { result.regions ≡ regions }
 {
     Progress {
         before: Before::Part,
         operands,
+        successors,
         regions,
     }
 }
@@ -237,10 +267,12 @@ fn print_flat_part<D: TextDialect>(
     requires live { IsSome (operation_at ctx.now.program op) }
     requires flat { part.now ≡ piece.Region → ⊥ }
     ensures { IfOk result (λ after. (indent : ℕ) → PartPrinted D.says (seen ctx.now)
-        (operands_at ctx.now.program op) (regions_in ctx.now.program op) left D.formats indent
+        (operands_at ctx.now.program op) (successors_at ctx.now.program op) (regions_in ctx.now.program op)
+        left D.formats indent
         (step_of directive) part.now progress after (string_bytes out.old) (string_bytes out.new)) }
 {
     let operands = progress.operands;
+    let successors = progress.successors;
     if let Part::Operands(count) = part {
         let to = operands
             .saturating_add(*count)
@@ -250,11 +282,19 @@ fn print_flat_part<D: TextDialect>(
         }
         print_gap(out, progress.before)?;
         print_operands(ctx, out, op, operands, to)?;
-        return Ok(behind_part(to, progress.regions));
+        return Ok(behind_part(to, successors, progress.regions));
     }
     print_gap(out, progress.before)?;
+    if let Part::Successor(count) = part {
+        let to = operands
+            .saturating_add(*count)
+            .min(op.get_num_operands(ctx));
+        let next = successors.saturating_add(1).min(op.get_num_successors(ctx));
+        print_successor(ctx, out, op, successors, operands.min(to), to)?;
+        return Ok(behind_part(to, next, progress.regions));
+    }
     print_part(alloc, ctx, out, directive, part, left, LISTS)?;
-    Ok(behind_part(operands, progress.regions))
+    Ok(behind_part(operands, successors, progress.regions))
 }
 
 /// The next region of an operation, unless none is left or it would be too deep.
@@ -322,12 +362,14 @@ fn print_operation_parts<D: TextDialect>(
     requires live { IsSome (operation_at ctx.now.program op) }
     requires narrow { indent + 4 * left < 2 ^ 60 }
     ensures { OnOk result (AddsOperationParts D.says (seen ctx.now)
-        (operands_at ctx.now.program op) (regions_in ctx.now.program op) left D.formats indent
+        (operands_at ctx.now.program op) (successors_at ctx.now.program op) (regions_in ctx.now.program op)
+        left D.formats indent
         (steps_of format.now) parts.now (string_bytes out.old) (string_bytes out.new)) }
 {
     let mut progress = Progress {
         before: Before::Id,
         operands: 0,
+        successors: 0,
         regions: 0,
     };
     let mut next = 0;
@@ -363,16 +405,17 @@ fn print_operation_part<D: TextDialect>(
     requires live { IsSome (operation_at ctx.now.program op) }
     requires narrow { indent + 4 * left < 2 ^ 60 }
     ensures { IfOk result (λ after. PartPrinted D.says (seen ctx.now)
-        (operands_at ctx.now.program op) (regions_in ctx.now.program op) left D.formats indent
+        (operands_at ctx.now.program op) (successors_at ctx.now.program op) (regions_in ctx.now.program op)
+        left D.formats indent
         (step_of directive) part.now progress after (string_bytes out.old) (string_bytes out.new)) }
 {
     if let Part::Region = part {
         print_gap(out, progress.before)?;
         let Some(region) = next_region(ctx, op, progress.regions, left) else {
-            return Ok(behind_part(progress.operands, progress.regions));
+            return Ok(behind_part(progress.operands, progress.successors, progress.regions));
         };
         print_region(alloc, ctx, out, region, indent, left - 1)?;
-        return Ok(behind_part(progress.operands, progress.regions + 1));
+        return Ok(behind_part(progress.operands, progress.successors, progress.regions + 1));
     }
     print_flat_part(alloc, ctx, out, op, directive, part, progress, left)
 }

@@ -8,13 +8,12 @@ ghost use Rattle.ir_grammar.specs.declared.grammar.Grammar.{Grammar};
 ghost use Rattle.ir_print.specs.Layout.{layout, IsShallow};
 ghost use Rattle.ir_print.specs.Pieces.{Entity};
 ghost use Rattle.ir_program.specs.Program.{operation_at};
-ghost use Rattle.ir_program.specs.declared.handles.Value.{Value};
 ghost use Rattle.ir_rereading.specs.Printable.{CanPrint};
 ghost use Rattle.text_printing.specs.Again.{IsReadAgain, IsTextOfModule};
 ghost use Rattle.text_dialect.specs.Printed.{PrintsAs};
 ghost use Rattle.text_dialect.specs.Seen.{seen};
 ghost use Rattle.text_dialect.specs.Standing.{StandsForTexts};
-ghost use Rattle.text_rereading.specs.Rereading.{Named};
+ghost use Rattle.text_rereading.specs.Rereading.{Numbering, Named};
 
 use crate::operations::print_root;
 use ir_context::Context;
@@ -41,12 +40,12 @@ pub fn print_module<D: TextDialect>(
     requires { IsSome (operation_at ctx.now.program root) }
     ensures text { (printed : Entity (List ℕ)) → PrintsAs D.says (seen ctx.now) root printed → IsShallow 64 printed →
         IfOk result (λ text. string_bytes text ≡ layout D.formats printed ++ 10 ∷ []) }
-    ensures layout { (l : Language) → l.formats ≡ D.formats → (values : List Value) (tree : Entity ℕ)
-        → StandsForTexts D.says (Named values) (seen ctx.now) root tree → IsClosedTree l tree
+    ensures layout { (l : Language) → l.formats ≡ D.formats → (numbering : Numbering) (tree : Entity ℕ)
+        → StandsForTexts D.says (Named numbering) (seen ctx.now) root tree → IsClosedTree l tree
         → IfOk result (λ text. IsTextOfModule l tree (string_bytes text)) }
     ensures again { (l : Language) → CanPrint l → l.formats ≡ D.formats → (g : Grammar) → IsGrammarOf l.formats g
-        → (values : List Value) (tree : Entity ℕ)
-        → StandsForTexts D.says (Named values) (seen ctx.now) root tree → IsClosedTree l tree → IsNumbered tree
+        → (numbering : Numbering) (tree : Entity ℕ)
+        → StandsForTexts D.says (Named numbering) (seen ctx.now) root tree → IsClosedTree l tree → IsNumbered tree
         → IfOk result (λ text. IsReadAgain l tree (string_bytes text)) }
 {
     know_places(ctx);

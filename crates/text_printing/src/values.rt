@@ -112,7 +112,8 @@ fn print_parts<D: TextDialect>(
     Ok(())
 }
 
-/// A part, at the directive of its format that it stands for. Operands and regions are printed with their operation.
+/// A part, at the directive of its format that it stands for. Operands, edges and regions are printed with their
+/// operation.
 #[cycle(values)]
 pub(crate) fn print_part<D: TextDialect>(
     alloc: Global,
@@ -140,6 +141,7 @@ pub(crate) fn print_part<D: TextDialect>(
             }
         }
         Part::Operands(_) => {}
+        Part::Successor(_) => {}
         Part::Region => {}
     }
     Ok(())

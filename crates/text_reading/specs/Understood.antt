@@ -12,7 +12,7 @@ use Rattle.ir_rereading.specs.Texts.{Says}
 use Rattle.text_dialect.specs.Seen.{Seen}
 use Rattle.text_dialect.specs.Standing.{StandsForTexts}
 use Rattle.text_frames.specs.Raised.{HoldsAllNew}
-use Rattle.text_rereading.specs.Rereading.{Named}
+use Rattle.text_rereading.specs.Rereading.{Numbering, Named}
 
 -- The operation has a tree that the text says, and its blocks have the labels of the tree and no attributes. Its definitions
 -- are values with numbers of their own, all below the counter, which stood at the first number and has moved on, to the second,
@@ -20,12 +20,12 @@ use Rattle.text_rereading.specs.Rereading.{Named}
 pub record IsSaid {K A T : Type 0} (says : Saying K A T) (l : Language) (cs : List ℕ) (s : Seen K A T) (first next : ℕ)
     (root : Ptr Operation) : Type 0 where
   pub tree : Entity ℕ
-  pub values : List Value
+  pub numbering : Numbering
   pub said : Says l cs tree
-  pub stands : StandsForTexts says (Named values) s root tree
-  pub distinct : (i j : ℕ) (v w : Value) → slice_get values i ≡ Some v → slice_get values j ≡ Some w
+  pub stands : StandsForTexts says (Named numbering) s root tree
+  pub distinct : (i j : ℕ) (v w : Value) → slice_get numbering.values i ≡ Some v → slice_get numbering.values j ≡ Some w
       → v.number ≡ w.number → i ≡ j
-  pub below : (i : ℕ) (v : Value) → slice_get values i ≡ Some v → v.number < next
+  pub below : (i : ℕ) (v : Value) → slice_get numbering.values i ≡ Some v → v.number < next
   pub counted : next ≡ first + length (definitions_of tree)
 
 -- The operation was read: it is what the text says, is in no block, and all that has come is inside it; what was there before

@@ -11,6 +11,7 @@ ghost use Rattle.text_frames.specs.building.Kept.{KeepsPayloads, KeepsPayloadsOf
 ghost use Rattle.text_dialect.specs.Seen.{Seen, seen};
 ghost use Rattle.text_frames.specs.Linking.{CanLink, Links};
 ghost use Rattle.text_frames.specs.Raised.{AreWaiting, HoldsAllNew};
+ghost use Rattle.text_frames.specs.Worlds.{NameTokens};
 ghost use Rattle.text_dialect.specs.formats.Isolated.{is_isolated};
 ghost use Rattle.text_reading.specs.Understood.{IsRead};
 
@@ -152,7 +153,7 @@ fn room_of(resolved: &Result<Resolution, ScopeFault>) -> Room {
             blocks: resolution.labels,
             values: resolution.count,
             operands: resolution.counts.mentions,
-            successors: 0,
+            successors: resolution.counts.edges,
         },
         Err(_) => Room {
             operations: 0,
@@ -182,35 +183,35 @@ fn undo<D: TextDialect>(ctx: &mut Context<D>, assembled: &Result<Assembly, Assem
     }
 }
 
-/// The operation that a text has become, with operands. Without memory all that was made of the text goes.
+/// The operation that a text has become, with operands and successors. Without memory all that was made of the text goes.
 fn connect<D: TextDialect>(
     alloc: Global,
     ctx: &mut Context<D>,
     resolution: &Resolution,
     assembly: &Assembly,
 ) -> Result<Ptr<Operation>, TextFault>
-    requires waiting { (start : Seen D.OpKind D.Attr D.TypeKey) × (mentions : List ℕ)
-        × AreWaiting start (seen ctx.old) assembly.now.pending.items mentions
+    requires waiting { (start : Seen D.OpKind D.Attr D.TypeKey) × (names : NameTokens)
+        × AreWaiting start (seen ctx.old) assembly.now.pending.items names
         × HoldsAllNew start (seen ctx.old) assembly.now.loose.items }
-    requires meant { CanLink (seen ctx.old) assembly.now.values.items resolution.now.definitions
-        assembly.now.pending.items }
+    requires meant { CanLink (seen ctx.old) assembly.now.values.items assembly.now.blocks.items
+        resolution.now.definitions assembly.now.pending.items }
     requires root { IsSome assembly.now.root }
     ensures root { IfOk result (λ root. assembly.now.root ≡ Some root) }
     ensures linked { OnOk result (Links (seen ctx.old) (seen ctx.new) assembly.now.values.items
-        resolution.now.definitions assembly.now.pending.items) }
-    ensures held { (start : Seen D.OpKind D.Attr D.TypeKey) (mentions : List ℕ)
-        → AreWaiting start (seen ctx.old) assembly.now.pending.items mentions
+        assembly.now.blocks.items resolution.now.definitions assembly.now.pending.items) }
+    ensures held { (start : Seen D.OpKind D.Attr D.TypeKey) (names : NameTokens)
+        → AreWaiting start (seen ctx.old) assembly.now.pending.items names
         → HoldsAllNew start (seen ctx.old) assembly.now.loose.items
         → OnOk result (HoldsAllNew start (seen ctx.new) assembly.now.loose.items) }
-    ensures undone { (start : Seen D.OpKind D.Attr D.TypeKey) (mentions : List ℕ)
-        → AreWaiting start (seen ctx.old) assembly.now.pending.items mentions
+    ensures undone { (start : Seen D.OpKind D.Attr D.TypeKey) (names : NameTokens)
+        → AreWaiting start (seen ctx.old) assembly.now.pending.items names
         → HoldsAllNew start (seen ctx.old) assembly.now.loose.items
         → OnErr result (SameSeen start (seen ctx.new)) }
     ensures memory { IfErr result (λ f. f ≡ Memory) }
     ensures counter { OnOk result (ctx.new.program.counter ≡ ctx.old.program.counter) }
     ensures erased { KeepsErased ctx.old.program ctx.new.program }
-    ensures payloads { (start : Seen D.OpKind D.Attr D.TypeKey) (mentions : List ℕ)
-        → AreWaiting start (seen ctx.old) assembly.now.pending.items mentions
+    ensures payloads { (start : Seen D.OpKind D.Attr D.TypeKey) (names : NameTokens)
+        → AreWaiting start (seen ctx.old) assembly.now.pending.items names
         → HoldsAllNew start (seen ctx.old) assembly.now.loose.items
         → KeepsPayloadsOf start ctx.old.program ctx.new.program }
 {

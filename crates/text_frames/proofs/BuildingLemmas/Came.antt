@@ -12,7 +12,7 @@ use Rattle.ir_program.specs.declared.handles.Value.{Value}
 use Rattle.ir_program.proofs.made.Frames.{same_or_not}
 use Rattle.text_dialect.specs.Seen.{SeenOperation, SeenBlock, Seen}
 use Rattle.text_frames.specs.building.Kept.{KeepsAllSeen, SameSeen}
-use Rattle.text_frames.specs.building.Made.{OpensBlock, MakesDetachedOperation, AppendsOperation, LinksOperands}
+use Rattle.text_frames.specs.building.Made.{OpensBlock, MakesDetachedOperation, AppendsOperation, LinksUses}
 use Rattle.text_frames.specs.building.Inside.{IsThere, IsNowhere, IsNodeInside, itself, in_block, in_region, in_operation, AreLoose, IsInsideSome, NamesWhatIsThere, CameSince, IsSeenForest}
 use Rattle.text_frames.specs.building.Came.{IsAmong, OneMore, Attached, TakenIn}
 use Rattle.text_frames.proofs.BuildingLemmas.Insides.{HolderInside, itself_or_held, loose_there, around_loose, none_inside, inside_now, inside_then}
@@ -120,8 +120,8 @@ module _ {K A T : Type 0} where
     }
 
   -- an operation that gets operands stays where it is
-  pub came_links : (start s t : Seen K A T) (xs : List IRNode) (p : Ptr Operation) (vs : List Value) → CameSince start s xs → LinksOperands s t p vs → IsNowhere start (OperationNode p) → CameSince start t xs
-  came_links start s t xs p vs came links new = record {
+  pub came_links : (start s t : Seen K A T) (xs : List IRNode) (p : Ptr Operation) (vs : List Value) (cs : List (Ptr BasicBlock)) → CameSince start s xs → LinksUses s t p vs cs → IsNowhere start (OperationNode p) → CameSince start t xs
+  came_links start s t xs p vs cs came links new = record {
     keeps = record {
       operations = λ q o e. links.others q (λ same. no_some o (sym new ∙ ap start.operation (sym same) ∙ e)) ∙ came.keeps.operations q o e;
       blocks = λ b v e. links.blocks b ∙ came.keeps.blocks b v e;
@@ -132,7 +132,7 @@ module _ {K A T : Type 0} where
     old = λ e h i. came.old e h (some_of s xs i.thing e (i.index, i.here) (inside_then s t i.thing (λ q j. same_regions q) (λ b j. links.blocks b) (λ r j. links.regions r) e i.inside));
     came = λ e none h. let i = came.came e none (back e h) in some_of t xs i.thing e (i.index, i.here) (inside_now s t i.thing (λ q j. same_regions q) (λ b j. links.blocks b) (λ r j. links.regions r) e i.inside);
   } where
-    kept_regions : (o : Option (SeenOperation K A)) → option_map (λ (u : SeenOperation K A). u.regions) (option_map (λ (u : SeenOperation K A). record u { operands = u.operands ++ vs }) o) ≡ option_map (λ (u : SeenOperation K A). u.regions) o
+    kept_regions : (o : Option (SeenOperation K A)) → option_map (λ (u : SeenOperation K A). u.regions) (option_map (λ (u : SeenOperation K A). record u { operands = u.operands ++ vs; successors = u.successors ++ cs }) o) ≡ option_map (λ (u : SeenOperation K A). u.regions) o
     kept_regions None = refl
     kept_regions (Some o) = refl
 

@@ -14,8 +14,8 @@ use Rattle.ir_program.specs.declared.handles.DefiningEntity.TheVariants.{Op as B
 use Rattle.ir_program.proofs.made.Frames.{same_or_not}
 use Rattle.text_dialect.specs.Seen.{SeenOperation, SeenBlock, Seen}
 use Rattle.text_frames.specs.building.Kept.{KeepsAllSeen, SameSeen}
-use Rattle.text_frames.specs.building.Loose.{IsLooseOperation, IsLooseBlock, values_of, IsDefinedValue}
-use Rattle.text_frames.specs.building.Made.{OpensBlock, MakesDetachedOperation, AppendsOperation, LinksOperands}
+use Rattle.text_frames.specs.building.Loose.{IsLooseOperation, IsLooseBlock, values_of, IsDefinedValue, IsDefinedBlock}
+use Rattle.text_frames.specs.building.Made.{OpensBlock, MakesDetachedOperation, AppendsOperation, LinksUses}
 use Rattle.text_frames.specs.building.Later.{IsLater}
 use Rattle.text_frames.proofs.BuildingLemmas.Members.{in_append, only_member, found_or_not, pairs_at}
 use Rattle.text_frames.proofs.BuildingLemmas.Options.{no_some, same_some, is_there, there, mapped, mapped_there}
@@ -24,8 +24,16 @@ use Rattle.text_frames.proofs.BuildingLemmas.Options.{no_some, same_some, is_the
 pub not_fresh : {E X : Type 0} (at : Ptr E → Option X) (p q : Ptr E) (x : X) → at p ≡ None → at q ≡ Some x → q ≢ p
 not_fresh at p q x none e same = no_some x (sym none ∙ ap at (sym same) ∙ e)
 
-no_more_operands : {K A : Type 0} (o : SeenOperation K A) → Some o ≡ Some (record o { operands = o.operands ++ [] })
-no_more_operands o = ap (λ vs. Some (record o { operands = vs })) (sym (append-nil o.operands))
+pub no_more_uses : {K A : Type 0} (o : SeenOperation K A) → Some o ≡ Some (record o { operands = o.operands ++ []; successors = o.successors ++ [] })
+no_more_uses o = ap (λ vs. Some (record o { operands = vs })) (sym (append-nil o.operands))
+    ∙ ap (λ bs. Some (record o { operands = o.operands ++ []; successors = bs })) (sym (append-nil o.successors))
+
+-- uses behind others, one after the other or all together
+pub more_uses : {K A : Type 0} (o : SeenOperation K A) (vs ws : List Value) (bs cs : List (Ptr BasicBlock))
+    → Some (record o { operands = (o.operands ++ vs) ++ ws; successors = (o.successors ++ bs) ++ cs })
+    ≡ Some (record o { operands = o.operands ++ (vs ++ ws); successors = o.successors ++ (bs ++ cs) })
+more_uses o vs ws bs cs = ap (λ xs. Some (record o { operands = xs; successors = (o.successors ++ bs) ++ cs })) (append_assoc o.operands vs ws)
+    ∙ ap (λ xs. Some (record o { operands = o.operands ++ (vs ++ ws); successors = xs })) (append_assoc o.successors bs cs)
 
 no_more_operations : (v : SeenBlock) → Some v ≡ Some (record v { operations = v.operations ++ [] })
 no_more_operations v = ap (λ ps. Some (record v { operations = ps })) (sym (append-nil v.operations))
@@ -68,7 +76,7 @@ module _ {K A T : Type 0} where
   pub keeps_later : (s t : Seen K A T) → KeepsAllSeen s t → IsLater s t
   keeps_later s t h = record {
     types = h.types;
-    operations = λ p o e. ([], h.operations p o e ∙ no_more_operands o);
+    operations = λ p o e. ([], [], h.operations p o e ∙ no_more_uses o);
     regions = h.regions;
     placed = λ b v e at. h.blocks b v e;
     open_blocks = λ b v e. ([], h.blocks b v e ∙ no_more_operations v);
@@ -79,8 +87,8 @@ module _ {K A T : Type 0} where
     types = λ n key e. b.types n key (a.types n key e);
     operations = λ p o e.
         let f = a.operations p o e in
-        let g = b.operations p (record o { operands = o.operands ++ f.0 }) f.1 in
-        (f.0 ++ g.0, g.1 ∙ ap (λ vs. Some (record o { operands = vs })) (append_assoc o.operands f.0 g.0));
+        let g = b.operations p (record o { operands = o.operands ++ f.0; successors = o.successors ++ f.1 }) f.2 in
+        (f.0 ++ g.0, f.1 ++ g.1, g.2 ∙ more_uses o f.0 g.0 f.1 g.1);
     regions = λ r bs e. b.regions r bs (a.regions r bs e);
     placed = λ q v e at. b.placed q v (a.placed q v e at) (record { region = at.region; blocks = at.blocks; index = at.index; at = a.regions at.region at.blocks at.at; here = at.here });
     open_blocks = λ q v e.
@@ -92,7 +100,7 @@ module _ {K A T : Type 0} where
   pub appends_later : (s t : Seen K A T) (b : Ptr BasicBlock) (p : Ptr Operation) → IsLooseBlock s b → AppendsOperation s t b p → IsLater s t
   appends_later s t b p loose h = record {
     types = λ n key e. ap (λ ts. slice_get ts n) h.types ∙ e;
-    operations = λ q o e. ([], h.operations q ∙ e ∙ no_more_operands o);
+    operations = λ q o e. ([], [], h.operations q ∙ e ∙ no_more_uses o);
     regions = λ r bs e. h.regions r ∙ e;
     placed = λ q v e at. h.others q (λ same. loose.loose at.region at.blocks at.index at.at (at.here ∙ ap Some same)) ∙ e;
     open_blocks = λ q v e. ⊎_elim
@@ -104,15 +112,16 @@ module _ {K A T : Type 0} where
         (same_or_not q b);
   }
 
-  pub links_later : (s t : Seen K A T) (p : Ptr Operation) (vs : List Value) → LinksOperands s t p vs → IsLater s t
-  links_later s t p vs h = record {
+  pub links_later : (s t : Seen K A T) (p : Ptr Operation) (vs : List Value) (bs : List (Ptr BasicBlock)) → LinksUses s t p vs bs → IsLater s t
+  links_later s t p vs bs h = record {
     types = λ n key e. ap (λ ts. slice_get ts n) h.types ∙ e;
     operations = λ q o e. ⊎_elim
         (λ (same : q ≡ p). (
           vs,
-          ap t.operation same ∙ h.linked ∙ ap (option_map (λ (w : SeenOperation K A). record w { operands = w.operands ++ vs })) (ap s.operation (sym same) ∙ e),
+          bs,
+          ap t.operation same ∙ h.linked ∙ ap (option_map (λ (w : SeenOperation K A). record w { operands = w.operands ++ vs; successors = w.successors ++ bs })) (ap s.operation (sym same) ∙ e),
         ))
-        (λ (ne : q ≢ p). ([], h.others q ne ∙ e ∙ no_more_operands o))
+        (λ (ne : q ≢ p). ([], [], h.others q ne ∙ e ∙ no_more_uses o))
         (same_or_not q p);
     regions = λ r bs e. h.regions r ∙ e;
     placed = λ b v e at. h.blocks b ∙ e;
@@ -125,7 +134,7 @@ module _ {K A T : Type 0} where
     from_operation : (p : Ptr Operation) (o : Option (SeenOperation K A)) → s.operation p ≡ o → (k : ℕ) (x : TypedValue) → slice_get (unwrap_or (option_map (λ (u : SeenOperation K A). u.results) o) []) k ≡ Some x
         → slice_get (values_of t (ByOp p)) k ≡ Some x
     from_operation p None e k x here = no_some x here
-    from_operation p (Some o) e k x here = let f = later.operations p o e in ap (λ y. slice_get (unwrap_or (option_map (λ (u : SeenOperation K A). u.results) y) []) k) f.1 ∙ here
+    from_operation p (Some o) e k x here = let f = later.operations p o e in ap (λ y. slice_get (unwrap_or (option_map (λ (u : SeenOperation K A). u.results) y) []) k) f.2 ∙ here
 
     from_block : (b : Ptr BasicBlock) (o : Option SeenBlock) → s.block b ≡ o → (k : ℕ) (x : TypedValue) → slice_get (unwrap_or (option_map (λ (u : SeenBlock). u.arguments) o) []) k ≡ Some x
         → slice_get (values_of t (ByBlock b)) k ≡ Some x
@@ -135,6 +144,10 @@ module _ {K A T : Type 0} where
     still : (e : DefiningEntity) (o : Option TypedValue) (k : ℕ) (x : TypedValue) → slice_get (values_of s e) k ≡ o → slice_get (values_of s e) k ≡ Some x → slice_get (values_of t e) k ≡ Some x
     still (ByOp p) o k x e here = from_operation p (s.operation p) refl k x here
     still (ByBlock b) o k x e here = from_block b (s.block b) refl k x here
+
+  -- so is a block that is there
+  pub block_later : (s t : Seen K A T) → IsLater s t → (b : Ptr BasicBlock) → IsDefinedBlock s b → IsDefinedBlock t b
+  block_later s t later b h = let m = is_there (s.block b) h in let f = later.open_blocks b m.0 m.1 in there (t.block b) _ f.1
 
 -- what is made leaves what is loose so, but for what it takes in
 module _ {K A T : Type 0} where
@@ -198,16 +211,16 @@ module _ {K A T : Type 0} where
         (same_or_not c b);
   }
 
-  pub links_loose_block : (s t : Seen K A T) (p : Ptr Operation) (vs : List Value) → LinksOperands s t p vs → (q : Ptr BasicBlock) → IsLooseBlock s q → IsLooseBlock t q
-  links_loose_block s t p vs h q loose = record {
+  pub links_loose_block : (s t : Seen K A T) (p : Ptr Operation) (vs : List Value) (bs : List (Ptr BasicBlock)) → LinksUses s t p vs bs → (q : Ptr BasicBlock) → IsLooseBlock s q → IsLooseBlock t q
+  links_loose_block s t p vs bs h q loose = record {
     there = subst IsSome (sym (h.blocks q)) loose.there;
-    loose = λ r bs k e listed. loose.loose r bs k (sym (h.regions r) ∙ e) listed;
+    loose = λ r cs k e listed. loose.loose r cs k (sym (h.regions r) ∙ e) listed;
   }
 
-  pub links_loose_operation : (s t : Seen K A T) (p : Ptr Operation) (vs : List Value) → LinksOperands s t p vs → (q : Ptr Operation) → IsLooseOperation s q → IsLooseOperation t q
-  links_loose_operation s t p vs h q loose = record {
+  pub links_loose_operation : (s t : Seen K A T) (p : Ptr Operation) (vs : List Value) (bs : List (Ptr BasicBlock)) → LinksUses s t p vs bs → (q : Ptr Operation) → IsLooseOperation s q → IsLooseOperation t q
+  links_loose_operation s t p vs bs h q loose = record {
     there = ⊎_elim
-        (λ (same : q ≡ p). subst IsSome (sym (ap t.operation same ∙ h.linked)) (mapped_there (λ (w : SeenOperation K A). record w { operands = w.operands ++ vs }) (s.operation p) (subst IsSome (ap s.operation same) loose.there)))
+        (λ (same : q ≡ p). subst IsSome (sym (ap t.operation same ∙ h.linked)) (mapped_there (λ (w : SeenOperation K A). record w { operands = w.operands ++ vs; successors = w.successors ++ bs }) (s.operation p) (subst IsSome (ap s.operation same) loose.there)))
         (λ (ne : q ≢ p). subst IsSome (sym (h.others q ne)) loose.there)
         (same_or_not q p);
     loose = λ b v k e listed. loose.loose b v k (sym (h.blocks b) ∙ e) listed;

@@ -1,6 +1,6 @@
--- Operands that are pushed one after the other, and values that can be.
+-- Operands and successors that are pushed one after the other, and values that can be.
 use Rattle.std.proofs.Common.{◌≡◌, ℕ, List, [], ◌∷◌, ◌++◌, Option, Some, None, IsSome, option_map, unwrap_or, slice_get, refl, sym, ap, ◌∙◌, subst}
-use Rattle.std.proofs.lemmas.List.{append-nil, append_assoc}
+use Rattle.std.proofs.lemmas.List.{append-nil}
 use Rattle.ir_program.specs.Adds.{AreLiveValues}
 use Rattle.ir_program.specs.Definers.{values_at}
 use Rattle.ir_program.specs.Edits.{EditsOperation, EditsBlock, IsUnchanged, KeepsValues}
@@ -15,7 +15,8 @@ use Rattle.ir_context.specs.declared.notes.OperationData.{OperationData}
 use Rattle.ir_context.specs.declared.notes.BlockNotes.{BlockNotes}
 use Rattle.text_dialect.specs.Seen.{SeenOperation, SeenBlock, Seen, seen, seen_operation, seen_block}
 use Rattle.text_frames.specs.building.Loose.{values_of, AreDefined}
-use Rattle.text_frames.specs.building.Made.{LinksOperands, AppendsOperation}
+use Rattle.text_frames.specs.building.Made.{LinksUses, LinksOperands, LinksSuccessors, AppendsOperation}
+use Rattle.text_frames.proofs.BuildingLemmas.Later.{no_more_uses, more_uses}
 use Rattle.text_frames.proofs.BuildingLemmas.Opened.{ContextOf}
 use Rattle.text_frames.proofs.BuildingLemmas.Options.{there}
 
@@ -24,22 +25,27 @@ abbrev pub AreTyped : {O B : Type 0} → Program O B → Type 0
 AreTyped c = (e : DefiningEntity) (k : ℕ) (v : Value) → value_in (values_at c e) k ≡ Some v → type_at c v ≡ type_in (values_at c e) k
 
 module _ {K A : Type 0} where
-  no_operand : (o : Option (SeenOperation K A)) → o ≡ option_map (λ (v : SeenOperation K A). record v { operands = v.operands ++ [] }) o
-  no_operand None = refl
-  no_operand (Some v) = ap (λ vs. Some (record v { operands = vs })) (sym (append-nil v.operands))
+  -- the operation with these values and blocks behind its operands and successors
+  abbrev pub with_uses : List Value → List (Ptr BasicBlock) → SeenOperation K A → SeenOperation K A
+  with_uses vs bs v = record v { operands = v.operands ++ vs; successors = v.successors ++ bs }
 
-  more_operands : (xs ys : List Value) (o : Option (SeenOperation K A)) → option_map (λ (v : SeenOperation K A). record v { operands = v.operands ++ ys }) (option_map (λ (v : SeenOperation K A). record v { operands = v.operands ++ xs }) o)
-      ≡ option_map (λ (v : SeenOperation K A). record v { operands = v.operands ++ (xs ++ ys) }) o
-  more_operands xs ys None = refl
-  more_operands xs ys (Some v) = ap (λ vs. Some (record v { operands = vs })) (append_assoc v.operands xs ys)
+  no_use : (o : Option (SeenOperation K A)) → o ≡ option_map (with_uses [] []) o
+  no_use None = refl
+  no_use (Some v) = no_more_uses v
+
+  both_uses : (xs ys : List Value) (bs cs : List (Ptr BasicBlock)) (o : Option (SeenOperation K A))
+      → option_map (with_uses ys cs) (option_map (with_uses xs bs) o) ≡ option_map (with_uses (xs ++ ys) (bs ++ cs)) o
+  both_uses xs ys bs cs None = refl
+  both_uses xs ys bs cs (Some v) = more_uses v xs ys bs cs
 
 module _ {K A T : Type 0} where
-  pub links_none : (s : Seen K A T) (p : Ptr Operation) → LinksOperands s s p []
-  links_none s p = record { linked = no_operand (s.operation p); others = λ q ne. refl; blocks = λ b. refl; regions = λ r. refl; types = refl }
+  pub links_none : (s : Seen K A T) (p : Ptr Operation) → LinksUses s s p [] []
+  links_none s p = record { linked = no_use (s.operation p); others = λ q ne. refl; blocks = λ b. refl; regions = λ r. refl; types = refl }
 
-  pub links_both : (s t u : Seen K A T) (p : Ptr Operation) (xs ys : List Value) → LinksOperands s t p xs → LinksOperands t u p ys → LinksOperands s u p (xs ++ ys)
-  links_both s t u p xs ys a b = record {
-    linked = b.linked ∙ ap (option_map (λ (v : SeenOperation K A). record v { operands = v.operands ++ ys })) a.linked ∙ more_operands xs ys (s.operation p);
+  pub links_both : (s t u : Seen K A T) (p : Ptr Operation) (xs ys : List Value) (bs cs : List (Ptr BasicBlock)) → LinksUses s t p xs bs → LinksUses t u p ys cs
+      → LinksUses s u p (xs ++ ys) (bs ++ cs)
+  links_both s t u p xs ys bs cs a b = record {
+    linked = b.linked ∙ ap (option_map (with_uses ys cs)) a.linked ∙ both_uses xs ys bs cs (s.operation p);
     others = λ q ne. b.others q ne ∙ a.others q ne;
     blocks = λ q. b.blocks q ∙ a.blocks q;
     regions = λ r. b.regions r ∙ a.regions r;
@@ -56,9 +62,15 @@ BlockOf D TypeKind AttrKind TypeBody Saved Location OpKind Attr TypeKey = BlockV
 module _ {D TypeKind AttrKind TypeBody Saved Location OpKind Attr TypeKey : Type 0} where
   seen_pushed : (x : Value) (o : Option (OperationOf D TypeKind AttrKind TypeBody Saved Location OpKind Attr TypeKey))
       → option_map seen_operation (option_map (λ (v : OperationOf D TypeKind AttrKind TypeBody Saved Location OpKind Attr TypeKey). record v { operands = v.operands ++ x ∷ [] }) o)
-      ≡ option_map (λ (v : SeenOperation OpKind Attr). record v { operands = v.operands ++ x ∷ [] }) (option_map seen_operation o)
+      ≡ option_map (with_uses (x ∷ []) []) (option_map seen_operation o)
   seen_pushed x None = refl
-  seen_pushed x (Some v) = refl
+  seen_pushed x (Some v) = ap (λ bs. Some (record (seen_operation v) { operands = v.operands ++ x ∷ []; successors = bs })) (sym (append-nil v.successors))
+
+  seen_pushed_block : (b : Ptr BasicBlock) (o : Option (OperationOf D TypeKind AttrKind TypeBody Saved Location OpKind Attr TypeKey))
+      → option_map seen_operation (option_map (λ (v : OperationOf D TypeKind AttrKind TypeBody Saved Location OpKind Attr TypeKey). record v { successors = v.successors ++ b ∷ [] }) o)
+      ≡ option_map (with_uses [] (b ∷ [])) (option_map seen_operation o)
+  seen_pushed_block b None = refl
+  seen_pushed_block b (Some v) = ap (λ vs. Some (record (seen_operation v) { operands = vs; successors = v.successors ++ b ∷ [] })) (sym (append-nil v.operands))
 
   seen_appended : (p : Ptr Operation) (o : Option (BlockOf D TypeKind AttrKind TypeBody Saved Location OpKind Attr TypeKey))
       → option_map seen_block (option_map (λ (v : BlockOf D TypeKind AttrKind TypeBody Saved Location OpKind Attr TypeKey). record v { operations = v.operations ++ p ∷ [] }) o)
@@ -86,6 +98,15 @@ module _ {D TypeKind AttrKind TypeBody Saved Location OpKind Attr TypeKey : Type
       types = ap (λ ts. ts.keys) same;
     }
 
+    pub push_links_block : (p : Ptr Operation) (b : Ptr BasicBlock) → EditsOperation c.program d.program p (λ (v : OperationOf D TypeKind AttrKind TypeBody Saved Location OpKind Attr TypeKey). record v { successors = v.successors ++ b ∷ [] }) → LinksSuccessors (seen c) (seen d) p (b ∷ [])
+    push_links_block p b h = record {
+      linked = ap (option_map seen_operation) h.edited ∙ seen_pushed_block b (operation_at c.program p);
+      others = λ q ne. ap (option_map seen_operation) (h.others q ne);
+      blocks = λ b. ap (option_map seen_block) (h.blocks b);
+      regions = λ r. ap (option_map (λ (v : RegionView). v.blocks)) (h.regions r);
+      types = ap (λ ts. ts.keys) same;
+    }
+
     pub put_appends : (b : Ptr BasicBlock) (p : Ptr Operation) → EditsBlock c.program d.program b (λ (v : BlockOf D TypeKind AttrKind TypeBody Saved Location OpKind Attr TypeKey). record v { operations = v.operations ++ p ∷ [] }) → AppendsOperation (seen c) (seen d) b p
     put_appends b p h = record {
       appended = ap (option_map seen_block) h.edited ∙ seen_appended p (block_at c.program b);
@@ -96,8 +117,8 @@ module _ {D TypeKind AttrKind TypeBody Saved Location OpKind Attr TypeKey : Type
     }
 
     -- what is linked is linked still where nothing changes
-    pub links_still : (s : Seen OpKind Attr TypeKey) (p : Ptr Operation) (xs : List Value) → LinksOperands s (seen c) p xs → IsUnchanged c.program d.program → LinksOperands s (seen d) p xs
-    links_still s p xs links h = record {
+    pub links_still : (s : Seen OpKind Attr TypeKey) (p : Ptr Operation) (xs : List Value) (bs : List (Ptr BasicBlock)) → LinksUses s (seen c) p xs bs → IsUnchanged c.program d.program → LinksUses s (seen d) p xs bs
+    links_still s p xs bs links h = record {
       linked = ap (option_map seen_operation) (h.operations p) ∙ links.linked;
       others = λ q ne. ap (option_map seen_operation) (h.operations q) ∙ links.others q ne;
       blocks = λ b. ap (option_map seen_block) (h.blocks b) ∙ links.blocks b;

@@ -2,7 +2,7 @@
 use Rattle.std.proofs.Common.{List, [], ◌∷◌, ◌++◌}
 use Rattle.ir_names.specs.Tree.{LabelledTree, Trees, node, no_tree, a_tree, join}
 use Rattle.ir_print.specs.declared.format.Part.{Part}
-use Rattle.ir_print.specs.Pieces.{type_of_kind, attribute_of_kind, list, item, operands, region, name, number, width, ValueTree, Pieces}
+use Rattle.ir_print.specs.Pieces.{type_of_kind, attribute_of_kind, list, item, operands, successor, region, name, number, width, ValueTree, Pieces}
 use Rattle.ir_print.specs.Shown.{Said, Saying, Shows, ShowsAll, ShowsPart, ShowsParts, ShowsMembers, ShowsMember}
 use Rattle.std.specs.Prelude.{Vec}
 use Rattle.std.specs.Global.{Global}
@@ -16,6 +16,7 @@ module _ {K A T : Type 0} (says : Saying K A T) (s t : List T) (keeps : KeepsKey
     shows_later x (node list ts) (us, e, all) = (us, e, all_later us ts all)
     shows_later x (node item ts) (us, e, all) = (us, e, all_later us ts all)
     shows_later x (node (operands n) ts) h = h
+    shows_later x (node (successor n) ts) h = h
     shows_later x (node region ts) h = h
     shows_later x (node (name cs) ts) h = h
     shows_later x (node (number b m) ts) h = h
@@ -35,6 +36,7 @@ module _ {D K A T : Type 0} (says : Saying K A T) (s t : List T) (keeps : KeepsK
     part_later x (node list ts) (ms, e, h) = (ms, e, members_later ms.items ts h)
     part_later x (node item ts) h = h
     part_later x (node (operands n) ts) h = h
+    part_later x (node (successor n) ts) h = h
     part_later x (node region ts) h = h
     part_later x (node (name cs) ts) h = h
     part_later x (node (number b m) ts) h = h
@@ -58,6 +60,7 @@ module _ {D K A T : Type 0} (says : Saying K A T) (s t : List T) (keeps : KeepsK
     member_later xs (node (attribute_of_kind n) ts) h = h
     member_later xs (node list ts) h = h
     member_later xs (node (operands n) ts) h = h
+    member_later xs (node (successor n) ts) h = h
     member_later xs (node region ts) h = h
     member_later xs (node (name cs) ts) h = h
     member_later xs (node (number b m) ts) h = h

@@ -17,12 +17,13 @@ pub record IsInSomeRegion {K A T : Type 0} (s : Seen K A T) (b : Ptr BasicBlock)
   pub here : slice_get blocks index ≡ Some b
 
 -- What is whole in the first stays so in the second: types keep their keys, regions keep their blocks, blocks that
--- are in a region are what they are, and operations are, but for operands that they have more. Blocks that are open
--- may have operations more.
+-- are in a region are what they are, and operations are, but for operands and successors that they have more. Blocks that are
+-- open may have operations more.
 pub record IsLater {K A T : Type 0} (s t : Seen K A T) : Type 0 where
   pub types : KeepsKeys s.types t.types
   pub operations : (p : Ptr Operation) (o : SeenOperation K A) → s.operation p ≡ Some o
-      → (vs : List Value) × (t.operation p ≡ Some (record o { operands = o.operands ++ vs }))
+      → (vs : List Value) × (bs : List (Ptr BasicBlock))
+      × (t.operation p ≡ Some (record o { operands = o.operands ++ vs; successors = o.successors ++ bs }))
   pub regions : (r : Ptr Region) (bs : List (Ptr BasicBlock)) → s.region r ≡ Some bs → t.region r ≡ Some bs
   pub placed : (b : Ptr BasicBlock) (v : SeenBlock) → s.block b ≡ Some v → IsInSomeRegion s b → t.block b ≡ Some v
   pub open_blocks : (b : Ptr BasicBlock) (v : SeenBlock) → s.block b ≡ Some v

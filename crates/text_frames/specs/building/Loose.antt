@@ -67,3 +67,11 @@ module _ {K A T : Type 0} (s : Seen K A T) where
   -- each of the values is
   abbrev pub AreDefined : List Value → Type 0
   AreDefined vs = (k : ℕ) (v : Value) → slice_get vs k ≡ Some v → IsDefinedValue v
+
+  -- the handle leads to a block, wherever that is
+  abbrev pub IsDefinedBlock : Ptr BasicBlock → Type 0
+  IsDefinedBlock b = IsSome (s.block b)
+
+  -- each of the handles does
+  abbrev pub AreDefinedBlocks : List (Ptr BasicBlock) → Type 0
+  AreDefinedBlocks bs = (k : ℕ) (b : Ptr BasicBlock) → slice_get bs k ≡ Some b → IsDefinedBlock b

@@ -87,15 +87,28 @@ module _ {K A T : Type 0} (old new : Seen K A T) where
     pub regions : (r : Ptr Region) → new.region r ≡ old.region r
     pub types : new.types ≡ old.types
 
-  -- the operation p takes these values behind its other operands, and all else is as it was
-  pub record LinksOperands (p : Ptr Operation) (vs : List Value) : Type 0 where
+  -- the operation p takes these values behind its other operands, and may go on to these blocks behind its other successors; all
+  -- else is as it was
+  pub record LinksUses (p : Ptr Operation) (vs : List Value) (bs : List (Ptr BasicBlock)) : Type 0 where
     pub linked : new.operation p
-        ≡ option_map (λ (o : SeenOperation K A). record o { operands = o.operands ++ vs }) (old.operation p)
+        ≡ option_map (λ (o : SeenOperation K A). record o { operands = o.operands ++ vs; successors = o.successors ++ bs })
+        (old.operation p)
     pub others : (q : Ptr Operation) → q ≢ p → new.operation q ≡ old.operation q
     pub blocks : (b : Ptr BasicBlock) → new.block b ≡ old.block b
     pub regions : (r : Ptr Region) → new.region r ≡ old.region r
     pub types : new.types ≡ old.types
 
+  -- the operation p takes these values alone, or gets these successors alone
+  abbrev pub LinksOperands : Ptr Operation → List Value → Type 0
+  LinksOperands p vs = LinksUses p vs []
+
+  abbrev pub LinksSuccessors : Ptr Operation → List (Ptr BasicBlock) → Type 0
+  LinksSuccessors p bs = LinksUses p [] bs
+
   -- the operation p takes a front of these values behind its other operands, but not all of them; all else is as it was
   abbrev pub LinksSome : Ptr Operation → List Value → Type 0
   LinksSome p vs = (n : ℕ) × (n < length vs) × LinksOperands p (take n vs)
+
+  -- it gets a front of these successors behind the others, but not all of them
+  abbrev pub LinksSomeSuccessors : Ptr Operation → List (Ptr BasicBlock) → Type 0
+  LinksSomeSuccessors p bs = (n : ℕ) × (n < length bs) × LinksSuccessors p (take n bs)

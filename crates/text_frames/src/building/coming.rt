@@ -13,12 +13,12 @@ ghost use Rattle.text_dialect.specs.Seen.{Seen};
 ghost use Rattle.text_frames.specs.building.Came.{Attached, OneMore, TakenIn};
 ghost use Rattle.text_frames.specs.building.Inside.{AreLoose, AreUsedInside, CameSince, IsSeenForest, IsNowhere, IsThere, NamesWhatIsThere};
 ghost use Rattle.text_frames.specs.building.Kept.{SameSeen};
-ghost use Rattle.text_frames.specs.building.Made.{AppendsOperation, LinksOperands, MakesDetachedOperation, OpensBlock};
+ghost use Rattle.text_frames.specs.building.Made.{AppendsOperation, LinksUses, MakesDetachedOperation, OpensBlock};
 
 /// Tells that all that came since the start is inside the loose things: at the start there are none; a new block is
 /// one more; a new operation is one in place of the blocks that it takes in; an operation that goes into one of the
-/// blocks is none any more; operands and refused calls change none. And what came since is used by what came since.
-/// It does nothing.
+/// blocks is none any more; operands, successors and refused calls change none. And what came since is used by what
+/// came since. It does nothing.
 pub fn know_came<K, A, T>()
     ensures starts { (s : Seen K A T) → NamesWhatIsThere s → CameSince s s [] }
     ensures same { (start s t : Seen K A T) (xs : List IRNode) → CameSince start s xs → SameSeen s t
@@ -35,6 +35,7 @@ pub fn know_came<K, A, T>()
         → CameSince start s xs → AppendsOperation s t b p → Attached xs ys b p → IsThere s (BlockNode b)
         → CameSince start t ys }
     ensures links { (start s t : Seen K A T) (xs : List IRNode) (p : Ptr Operation) (vs : List Value)
-        → CameSince start s xs → LinksOperands s t p vs → IsNowhere start (OperationNode p) → CameSince start t xs }
+        (bs : List (Ptr BasicBlock)) → CameSince start s xs → LinksUses s t p vs bs
+        → IsNowhere start (OperationNode p) → CameSince start t xs }
     ensures used { (start s : Seen K A T) (xs : List IRNode) → CameSince start s xs → AreUsedInside s xs }
 {}

@@ -12,7 +12,7 @@ ghost use Rattle.text_frames.specs.building.Inside.{IsSeenForest, NamesWhatIsThe
 ghost use Rattle.text_frames.specs.building.Kept.{KeepsAllSeen, SameSeen};
 ghost use Rattle.text_frames.specs.building.Later.{IsLater};
 ghost use Rattle.text_frames.specs.building.Loose.{IsDefinedValue, IsLooseBlock, IsLooseOperation};
-ghost use Rattle.text_frames.specs.building.Made.{AppendsOperation, LinksOperands, MakesDetachedOperation, OpensBlock};
+ghost use Rattle.text_frames.specs.building.Made.{AppendsOperation, LinksUses, MakesDetachedOperation, OpensBlock};
 
 use ir_context::Context;
 use ir_types::DialectTables;
@@ -43,14 +43,15 @@ pub fn know_kept<K, A, T>()
 {}
 
 /// Tells that what is whole stays so: where all is kept, where an open block gets an operation, and where an
-/// operation gets operands; and of two calls, where both leave it so. A value that is defined stays defined. It does
-/// nothing.
+/// operation gets operands and successors; and of two calls, where both leave it so. A value that is defined stays
+/// defined. It does nothing.
 pub fn know_later<K, A, T>()
     ensures kept { (s t : Seen K A T) → KeepsAllSeen s t → IsLater s t }
     ensures both { (s t u : Seen K A T) → IsLater s t → IsLater t u → IsLater s u }
     ensures appends { (s t : Seen K A T) (b : Ptr BasicBlock) (p : Ptr Operation) → IsLooseBlock s b
         → AppendsOperation s t b p → IsLater s t }
-    ensures links { (s t : Seen K A T) (p : Ptr Operation) (vs : List Value) → LinksOperands s t p vs → IsLater s t }
+    ensures links { (s t : Seen K A T) (p : Ptr Operation) (vs : List Value) (bs : List (Ptr BasicBlock))
+        → LinksUses s t p vs bs → IsLater s t }
     ensures defined { (s t : Seen K A T) → IsLater s t → (v : Value) → IsDefinedValue s v → IsDefinedValue t v }
 {}
 
@@ -65,8 +66,8 @@ pub fn know_loose_blocks<K, A, T>()
         → ((k : ℕ) (bs : List (Ptr BasicBlock)) → slice_get bss k ≡ Some bs → IsNoneOf bs q) → IsLooseBlock t q }
     ensures appends { (s t : Seen K A T) (b : Ptr BasicBlock) (p : Ptr Operation) → AppendsOperation s t b p
         → (q : Ptr BasicBlock) → IsLooseBlock s q → IsLooseBlock t q }
-    ensures links { (s t : Seen K A T) (p : Ptr Operation) (vs : List Value) → LinksOperands s t p vs
-        → (q : Ptr BasicBlock) → IsLooseBlock s q → IsLooseBlock t q }
+    ensures links { (s t : Seen K A T) (p : Ptr Operation) (vs : List Value) (bs : List (Ptr BasicBlock))
+        → LinksUses s t p vs bs → (q : Ptr BasicBlock) → IsLooseBlock s q → IsLooseBlock t q }
 {}
 
 /// Tells that operations that are in no block stay so, but for one that a block gets. It does nothing.
@@ -79,6 +80,6 @@ pub fn know_loose_operations<K, A, T>()
         → (q : Ptr Operation) → IsLooseOperation s q → IsLooseOperation t q }
     ensures appends { (s t : Seen K A T) (b : Ptr BasicBlock) (p : Ptr Operation) → AppendsOperation s t b p
         → (q : Ptr Operation) → q ≢ p → IsLooseOperation s q → IsLooseOperation t q }
-    ensures links { (s t : Seen K A T) (p : Ptr Operation) (vs : List Value) → LinksOperands s t p vs
-        → (q : Ptr Operation) → IsLooseOperation s q → IsLooseOperation t q }
+    ensures links { (s t : Seen K A T) (p : Ptr Operation) (vs : List Value) (bs : List (Ptr BasicBlock))
+        → LinksUses s t p vs bs → (q : Ptr Operation) → IsLooseOperation s q → IsLooseOperation t q }
 {}

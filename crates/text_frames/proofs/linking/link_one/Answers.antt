@@ -1,4 +1,4 @@
-use Rattle.std.proofs.Common.{◌≡◌, ◌∙◌, ◌≤◌, ◌+◌, List, Some, length, take, ap, subst, refl}
+use Rattle.std.proofs.Common.{◌≡◌, ◌∙◌, ◌≤◌, ◌+◌, List, [], Some, length, take, ap, subst, refl}
 use Rattle.std.proofs.lemmas.List.{take_all}
 use Rattle.ir_program.specs.declared.handles.Value.{Value}
 use Rattle.text_dialect.specs.Seen.{seen}
@@ -29,7 +29,7 @@ link_operands-requires-clause-values g c =
     c.args.tokens.now c.args.tokens.now c.loop-token.token-index c.value_of.result
     refl said.1 c.loop-token-test.true c.value_of.ensures in
     let same : it.0 ≡ c.in-Some.value = cc (it.2, c.in-Some.is) in
-    let later = links_later s t c.args.op (take c.loop-token.token-index said.0)
+    let later = links_later s t c.args.op (take c.loop-token.token-index said.0) []
     (c.loop-token.invariant.linked said.0 said.1) in
     one_defined t c.in-Some.value (subst (λ (v : Value). IsDefinedValue t v) same (defined_later s t later it.0 it.3))
 
@@ -38,8 +38,8 @@ returns-in_err-link_operands-clause-held g c start xs holds new =
     let said = c.requires.meant in
     let op = c.args.op in
     let front = c.in_err-link_operands.ensures.err in
-    holds_links start (seen c.loop-token.ctx) (seen c.link_operands.new.ctx) op (take front.0 _) xs front.2 new
-    (holds_links start (seen c.args.ctx.now) (seen c.loop-token.ctx) op (take c.loop-token.token-index said.0) xs
+    holds_links start (seen c.loop-token.ctx) (seen c.link_operands.new.ctx) op (take front.0 _) [] xs front.2 new
+    (holds_links start (seen c.args.ctx.now) (seen c.loop-token.ctx) op (take c.loop-token.token-index said.0) [] xs
     (c.loop-token.invariant.linked said.0 said.1) new holds)
 
 pub returns-in_err-link_operands-clause-numbers : goal.returns-in_err-link_operands-clause-numbers
@@ -89,4 +89,4 @@ pub returns-clause-held : goal.returns-clause-held
 returns-clause-held g c start xs holds new =
     let said = c.requires.meant in
     holds_links start (seen c.args.ctx.now) (seen c.loop-token.ctx) c.args.op
-    (take c.loop-token.token-index said.0) xs (c.loop-token.invariant.linked said.0 said.1) new holds
+    (take c.loop-token.token-index said.0) [] xs (c.loop-token.invariant.linked said.0 said.1) new holds

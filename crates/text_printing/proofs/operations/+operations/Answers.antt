@@ -6,7 +6,7 @@ use Rattle.std.proofs.lemmas.Result.{IfOk-weaker, on_ok_weaker}
 use Rattle.std.proofs.lemmas.Option.{slice_get_read}
 use Rattle.ir_program.specs.Lists.{StandsInBlock, StandsInRegion, blocks_in, operations_in, regions_in}
 use Rattle.ir_program.specs.Program.{operation_at, block_at, results_at, arguments_at}
-use Rattle.ir_program.specs.Rows.{operands_at}
+use Rattle.ir_program.specs.Rows.{operands_at, successors_at}
 use Rattle.ir_print.specs.Formats.{step_of, steps_of}
 use Rattle.text_dialect.specs.Seen.{seen}
 use Rattle.text_printing.specs.declared.words.Before.TheVariants.{Literal}
@@ -111,10 +111,11 @@ print_operation-returns g t c =
     on_ok_weaker c.print_operation_parts.result (λ print.
     operation_printed d.says d.formats (seen c.args.ctx.now) c.args.indent c.args.left d.values c.args.op d.kind_at d.op_kind m.nested
     m.says_operations m.operations m.says_kinds c.kind-kind.result (results_at c.args.ctx.now.program c.args.op)
-    (operands_at c.args.ctx.now.program c.args.op) (regions_in c.args.ctx.now.program c.args.op)
+    (operands_at c.args.ctx.now.program c.args.op) (successors_at c.args.ctx.now.program c.args.op)
+    (regions_in c.args.ctx.now.program c.args.op)
     (operation_read c.args.ctx.now c.args.op c.kind-kind.result c.kind-kind.ensures) c.in_ok-parts.parts.items
     (steps_of c.op_format.result.now) _ _ _ c.in_ok-print_operation_head.ensures c.op_format.ensures c.in_ok-parts.ensures
-    (λ ts us es rest h. print ts us es rest (rw c.deref.ensures.value h)))
+    (λ ts us ls es rest h. print ts us ls es rest (rw c.deref.ensures.value h)))
     c.print_operation_parts.ensures
 
 -- ---- formats of operations
@@ -122,13 +123,15 @@ print_operation-returns g t c =
 pub print_operation_parts-loop-directive-init : goal.print_operation_parts-loop-directive-init
 print_operation_parts-loop-directive-init g t c =
     operation_start g.D.TextDialect.says g.D.TextDialect.formats (seen c.args.ctx.now)
-    (operands_at c.args.ctx.now.program c.args.op) (regions_in c.args.ctx.now.program c.args.op) c.args.indent c.args.left
-    c.args.parts.now c.args.format.now _ _ refl refl refl
+    (operands_at c.args.ctx.now.program c.args.op) (successors_at c.args.ctx.now.program c.args.op)
+    (regions_in c.args.ctx.now.program c.args.op) c.args.indent c.args.left
+    c.args.parts.now c.args.format.now _ _ refl refl refl refl
 
 pub print_operation_parts-returns : goal.print_operation_parts-returns
 print_operation_parts-returns g t c =
     operation_past g.D.TextDialect.says g.D.TextDialect.formats (seen c.args.ctx.now)
-    (operands_at c.args.ctx.now.program c.args.op) (regions_in c.args.ctx.now.program c.args.op) c.args.indent c.args.left
+    (operands_at c.args.ctx.now.program c.args.op) (successors_at c.args.ctx.now.program c.args.op)
+    (regions_in c.args.ctx.now.program c.args.op) c.args.indent c.args.left
     c.args.parts.now _ c.args.format.now c.loop-directive.directive-index c.loop-directive.progress
     (string_bytes c.args.out.now) (string_bytes c.loop-directive.out) (omega arith) c.loop-directive.invariant
 
@@ -138,8 +141,8 @@ past i n h = grind (arith, nat_tests)
 pub print_operation_parts-loop-directive-preserved-in-Literal : goal.print_operation_parts-loop-directive-preserved-in-Literal
 print_operation_parts-loop-directive-preserved-in-Literal g t c =
     let ds = c.args.format.now in
-    operation_word_at _ _ _ _ _ _ _ c.args.parts.now _ ds c.loop-directive.directive-index c.in-Literal.text c.loop-directive.progress (record c.loop-directive.progress { before = Literal }) _ _ _
-    (slice_get_read ds (length ds) c.loop-directive.directive-index c.directive-item.result refl (omega arith) c.directive-item.is ∙ ap Some c.in-Literal.is) c.loop-directive.invariant refl refl refl c.in_ok-print_literal.ensures
+    operation_word_at _ _ _ _ _ _ _ _ c.args.parts.now _ ds c.loop-directive.directive-index c.in-Literal.text c.loop-directive.progress (record c.loop-directive.progress { before = Literal }) _ _ _
+    (slice_get_read ds (length ds) c.loop-directive.directive-index c.directive-item.result refl (omega arith) c.directive-item.is ∙ ap Some c.in-Literal.is) c.loop-directive.invariant refl refl refl refl c.in_ok-print_literal.ensures
 
 pub print_operation_parts-loop-directive-preserved : goal.print_operation_parts-loop-directive-preserved
 print_operation_parts-loop-directive-preserved g t c =
@@ -147,12 +150,12 @@ print_operation_parts-loop-directive-preserved g t c =
     let ps = c.args.parts.now in
     elim c.match-get.branch [
       | print_operation_parts-in-Some+in_ok-progress w ↦ rw (w.out-is, w.next-is, w.progress-is) (
-          operation_part_at _ _ _ _ _ _ _ ps c.loop-directive.next w.in-Some.part.now ds c.loop-directive.directive-index c.directive-item.result c.loop-directive.progress _ _ _ _
+          operation_part_at _ _ _ _ _ _ _ _ ps c.loop-directive.next w.in-Some.part.now ds c.loop-directive.directive-index c.directive-item.result c.loop-directive.progress _ _ _ _
           (slice_get_read ds (length ds) c.loop-directive.directive-index c.directive-item.result refl (omega arith) c.directive-item.is)
           (slice_get_read ps (length ps) c.loop-directive.next w.in-Some.part.now refl w.in-Some.ensures.lookup.3.0 w.in-Some.ensures.lookup.1)
           c.in_default.not-Literal c.loop-directive.invariant w.in_ok-progress.ensures)
       | print_operation_parts-in_default-get w ↦ rw (w.out-is, w.next-is, w.progress-is) (
-          operation_none_at _ _ _ _ _ _ _ ps c.loop-directive.next ds c.loop-directive.directive-index c.directive-item.result c.loop-directive.progress _ _
+          operation_none_at _ _ _ _ _ _ _ _ ps c.loop-directive.next ds c.loop-directive.directive-index c.directive-item.result c.loop-directive.progress _ _
           (slice_get_read ds (length ds) c.loop-directive.directive-index c.directive-item.result refl (omega arith) c.directive-item.is)
           (past c.loop-directive.next (length ps) w.in_default-get.ensures.lookup.0) c.in_default.not-Literal c.loop-directive.invariant)
     ]
@@ -163,17 +166,19 @@ pub print_operation_part-returns-in_default-next_region : goal.print_operation_p
 print_operation_part-returns-in_default-next_region g t c =
     let b = c.behind_part.ensures in
     no_region_printed g.D.TextDialect.says g.D.TextDialect.formats (seen c.args.ctx.now)
-    (operands_at c.args.ctx.now.program c.args.op) (regions_in c.args.ctx.now.program c.args.op) (step_of c.args.directive)
+    (operands_at c.args.ctx.now.program c.args.op) (successors_at c.args.ctx.now.program c.args.op)
+    (regions_in c.args.ctx.now.program c.args.op) (step_of c.args.directive)
     c.args.part.now c.args.indent c.args.left c.args.progress c.behind_part.result _ _ c.in-Region.is
-    c.in_default-next_region.ensures.region b.before b.operands b.regions c.in_ok-print_gap.ensures
+    c.in_default-next_region.ensures.region b.before b.operands b.successors b.regions c.in_ok-print_gap.ensures
 
 pub print_operation_part-returns-in-Region : goal.print_operation_part-returns-in-Region
 print_operation_part-returns-in-Region g t c =
     let b = c.behind_part-in-Region.ensures in
     region_printed g.D.TextDialect.says g.D.TextDialect.formats (seen c.args.ctx.now)
-    (operands_at c.args.ctx.now.program c.args.op) (regions_in c.args.ctx.now.program c.args.op) (step_of c.args.directive)
+    (operands_at c.args.ctx.now.program c.args.op) (successors_at c.args.ctx.now.program c.args.op)
+    (regions_in c.args.ctx.now.program c.args.op) (step_of c.args.directive)
     c.args.part.now c.args.indent c.args.left c.args.progress c.behind_part-in-Region.result c.in-Some.region _ _ _
-    c.in-Region.is c.in-Some.ensures.deep c.in-Some.ensures.region b.before b.operands b.regions c.in_ok-print_gap.ensures
+    c.in-Region.is c.in-Some.ensures.deep c.in-Some.ensures.region b.before b.operands b.successors b.regions c.in_ok-print_gap.ensures
     c.in_ok-print_region.ensures
 
 pub print_operation_part-returns : goal.print_operation_part-returns

@@ -1,7 +1,7 @@
 use Rattle.std.proofs.Common.{◌+◌, ◌*◌, drop, true}
 use Rattle.std.specs.String.{string_bytes}
 use Rattle.ir_program.specs.Lists.{StandsInBlock, StandsInRegion, blocks_in, operations_in, regions_in}
-use Rattle.ir_program.specs.Rows.{operands_at}
+use Rattle.ir_program.specs.Rows.{operands_at, successors_at}
 use Rattle.text_dialect.specs.Seen.{seen}
 use Rattle.text_printing.proofs.OperationOwed.{OperationOwed}
 use Rattle.text_printing.proofs.RowsOwed.{Each, ShallowBlock, ShallowOperation, blocks_left, operations_left}
@@ -26,7 +26,7 @@ decreases-print_block g l = 5 * l.left + 3
 abbrev pub invariant-print_operation_parts-loop-directive : goal.invariant-print_operation_parts-loop-directive
 invariant-print_operation_parts-loop-directive g l =
     OperationOwed g.D.TextDialect.says g.D.TextDialect.formats (seen l.ctx) (operands_at l.ctx.program l.op)
-    (regions_in l.ctx.program l.op) l.indent l.left l.parts (drop l.next l.parts) l.format
+    (successors_at l.ctx.program l.op) (regions_in l.ctx.program l.op) l.indent l.left l.parts (drop l.next l.parts) l.format
     (drop l.directive-index l.format) l.progress (string_bytes l.fn.out) (string_bytes l.out)
 
 abbrev pub invariant-print_block-loop-op : goal.invariant-print_block-loop-op

@@ -2,8 +2,9 @@ use Rattle.std.proofs.Common.{drop}
 use Rattle.std.specs.String.{string_bytes}
 use Rattle.ir_print.specs.Shown.{Pairs}
 use Rattle.ir_program.specs.Program.{results_at}
+use Rattle.text_printing.specs.Added.{HasName}
 use Rattle.text_printing.proofs.Owed.{Owed}
-use Rattle.text_printing.proofs.RowsOwed.{HasName, results_left}
+use Rattle.text_printing.proofs.RowsOwed.{results_left}
 use Rattle.text_printing.proofs.operations.print_results.Given as goal
 
 abbrev pub invariant-loop-index : goal.invariant-loop-index

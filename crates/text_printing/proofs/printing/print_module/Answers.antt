@@ -10,7 +10,7 @@ string_few : {A : Type 0} (s : String A) → length (string_bytes s) < 2 ^ 63
 string_few s = let few = s.bytes.small in let many = s.bytes.ok.0 in omega (arith, few, many)
 
 pub returns-clause-again : goal.returns-clause-again
-returns-clause-again g c = λ l can formats grammar known values tree stands closed numbered.
+returns-clause-again g c = λ l can formats grammar known numbering tree stands closed numbered.
     let d = g.D.TextDialect in
     let law = c.printed_modules_are_read_again.ensures in
     let s = seen c.args.ctx.now in
@@ -21,9 +21,9 @@ returns-clause-again g c = λ l can formats grammar known values tree stands clo
     subst (λ cs. length cs < 2 ^ 63) ends (string_few c.push_str.new.self) in
     let places = c.know_places.ensures in
     let small = c.know_small_numbers.ensures in
-    let bytes = law.bytes l can formats s places values c.args.root tree front stands small closed printed in
+    let bytes = law.bytes l can formats s places numbering c.args.root tree front stands small closed printed in
     let read =
-    law.read l can formats grammar known s places values c.args.root tree front stands small closed numbered printed
+    law.read l can formats grammar known s places numbering c.args.root tree front stands small closed numbered printed
     few in
     record {
       utf8 = subst IsUtf8 (sym ends) bytes.0;

@@ -12,14 +12,14 @@ use Rattle.ir_tokens.specs.Tokens.{text_between}
 use Rattle.ir_formats.specs.Words.{token_text}
 use Rattle.ir_formats.proofs.Between.{texts_stand}
 use Rattle.ir_formats.proofs.Ordered.{own_tokens}
-use Rattle.ir_scopes.specs.Naming.{defined_from, mentioned_from}
+use Rattle.ir_scopes.specs.Naming.{defined_from}
 use Rattle.ir_scopes.specs.Scopes.{definitions, IsResolved, IsScopeFault}
 use Rattle.ir_rereading.specs.Texts.{language_of}
 use Rattle.ir_rereading.proofs.trees.DefinedTokens.{many_defined}
 use Rattle.ir_rereading.proofs.verdicts.Identifiers.{reading_spelt}
 use Rattle.ir_rereading.proofs.verdicts.TextReadings.{read_in_order, read_whole}
 use Rattle.text_dialect.specs.formats.Isolated.{is_isolated}
-use Rattle.text_frames.specs.Raised.{HoldsAllNew, IsAssembled}
+use Rattle.text_frames.specs.Raised.{names_in, HoldsAllNew, IsAssembled}
 use Rattle.text_reading.proofs.Judged.{judged_so}
 use Rattle.text_reading.proofs.Understood.{can_link_all, answers_read}
 use Rattle.text_reading.proofs.reading.understand.Goals as goal
@@ -130,7 +130,7 @@ connect-requires-clause-waiting g c =
     (subst (IsAssembled d.says d.values (text_between cs c.args.source.starts.now) start s first next a) c.deref-2.ensures.value
     (IfOk-at_ok (λ z. IsAssembled d.says d.values (text_between cs c.args.source.starts.now) start s first next z c.deref-2.result.now) c.in-Ok.is (c.assemble-assembled.ensures.made to))) in
     let held = IfOk-at_ok (λ z. HoldsAllNew start s z.loose.items) c.in-Ok.is c.assemble-assembled.ensures.held in
-    (start, mentioned_from 0 es, made.operands, held)
+    (start, names_in es, made.operands, held)
 
 pub connect-requires-clause-meant : goal.connect-requires-clause-meant
 connect-requires-clause-meant g c =
@@ -235,7 +235,7 @@ returns-clause-read g c =
     let linked = c.connect.ensures.linked in
     answers_read l cs ts names r.stop r.taken es resolution c.requires.reading.2 leads own resolved c.requires.reading.2.numbered many d.says start s first next a made
     (seen c.connect.new.ctx) c.connect.new.ctx.program.counter c.connect.result linked c.connect.ensures.root
-    (c.connect.ensures.held start (mentioned_from 0 es) made.operands held) c.connect.ensures.counter none
+    (c.connect.ensures.held start (names_in es) made.operands held) c.connect.ensures.counter none
 
 pub returns-clause-refused : goal.returns-clause-refused
 returns-clause-refused g c =
@@ -269,7 +269,7 @@ returns-clause-refused g c =
     (subst (IsAssembled d.says d.values (text_between cs c.args.source.starts.now) start s first next a) c.deref-2.ensures.value
     (IfOk-at_ok (λ z. IsAssembled d.says d.values (text_between cs c.args.source.starts.now) start s first next z c.deref-2.result.now) c.in-Ok.is (c.assemble-assembled.ensures.made to))) in
     let held = IfOk-at_ok (λ z. HoldsAllNew start s z.loose.items) c.in-Ok.is c.assemble-assembled.ensures.held in
-    c.connect.ensures.undone start (mentioned_from 0 es) made.operands held
+    c.connect.ensures.undone start (names_in es) made.operands held
 
 pub returns-in-Err-clause-erased : goal.returns-in-Err-clause-erased
 returns-in-Err-clause-erased g c = erased_both _ _ _ c.assemble-assembled.ensures.erased c.undo.ensures.erased
@@ -315,4 +315,4 @@ returns-clause-payloads g c =
     (IfOk-at_ok (λ z. IsAssembled d.says d.values (text_between cs c.args.source.starts.now) start s first next z c.deref-2.result.now) c.in-Ok.is (c.assemble-assembled.ensures.made to))) in
     let held = IfOk-at_ok (λ z. HoldsAllNew start s z.loose.items) c.in-Ok.is c.assemble-assembled.ensures.held in
     payloads_since c.args.ctx.now c.assemble-assembled.new.ctx c.connect.new.ctx c.assemble-assembled.ensures.payloads
-    (c.connect.ensures.payloads start (mentioned_from 0 es) made.operands held)
+    (c.connect.ensures.payloads start (names_in es) made.operands held)

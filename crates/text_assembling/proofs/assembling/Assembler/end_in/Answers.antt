@@ -1,14 +1,14 @@
 use Rattle.std.proofs.Common.{◌∙◌, ◌++◌, ◌∷◌, [], ap, refl, sym}
 use Rattle.std.proofs.lemmas.Result.{on_ok_weaker}
 use Rattle.text_frames.specs.declared.opened.Body.TheVariants as body
-use Rattle.text_frames.proofs.Ended.{in_it, outer_list, outer_of_region, outer_of_operands, outer_region, ended_type, ended_attribute, ended_list, ended_item, ended_operation, ended_operands, ended_region, ended_block, type_refused, attribute_refused, operation_refused}
-use Rattle.text_assembling.proofs.RaisingBlocks.{list_around, operation_around, text_stays, nothing_made, region_raised, block_raised}
+use Rattle.text_frames.proofs.Ended.{in_it, outer_list, outer_of_region, outer_of_operands, outer_of_edge, outer_region, ended_type, ended_attribute, ended_list, ended_item, ended_operation, ended_operands, ended_edge, ended_region, ended_block, type_refused, attribute_refused, operation_refused}
+use Rattle.text_assembling.proofs.RaisingBlocks.{list_around, operation_around, operation_around_edge, text_stays, nothing_made, region_raised, block_raised}
 use Rattle.text_frames.proofs.Opening.{interned_same, keeps_keys}
 use Rattle.text_assembling.proofs.RaisingOperations.{operation_can, operation_full, operation_raised, operation_shown}
 use Rattle.text_assembling.proofs.ReadContents.{parts_read, says_read}
 use Rattle.text_assembling.proofs.Stepped.{on_ok_both}
 use Rattle.text_assembling.proofs.Undone.{on_err_any, undone_so}
-use Rattle.text_assembling.proofs.RaisingValues.{type_raised, attribute_raised, list_raised, item_raised, operands_raised}
+use Rattle.text_assembling.proofs.RaisingValues.{type_raised, attribute_raised, list_raised, item_raised, operands_raised, edge_raised}
 use Rattle.text_assembling.proofs.assembling.Assembler.end_in.Goals as goal
 
 pub returns-in-Type-clause-ended : goal.returns-in-Type-clause-ended
@@ -70,6 +70,13 @@ returns-in-Operands-clause-ended g c text o at next ts e =
     (λ w. ended_operands _ _ _ _ _ (λ i key h. h) _ _ _ _ _ _ _ _ e outer.0 w.0 c.in-Operands.tokens c.in-Operands.is outer.1 w.1 w.2)
     (c.end_operands-made.ensures.here outer.0 outer.1)
 
+pub returns-in-Successor-clause-ended : goal.returns-in-Successor-clause-ended
+returns-in-Successor-clause-ended g c text o at next ts e =
+    let outer = outer_of_edge _ _ _ _ _ _ _ _ _ _ e c.in-Successor.tokens c.in-Successor.is in
+    on_ok_weaker c.end_successor-made.result
+    (λ w. ended_edge _ _ _ _ _ (λ i key h. h) _ _ _ _ _ _ _ _ e outer.0 w.0 c.in-Successor.tokens c.in-Successor.is outer.1 w.1 w.2)
+    (c.end_successor-made.ensures.here outer.0 outer.1)
+
 pub returns-in-Region-clause-ended : goal.returns-in-Region-clause-ended
 returns-in-Region-clause-ended g c text o at next ts e =
     let outer = outer_of_region _ _ _ _ _ _ _ _ _ _ e c.in-Region.blocks c.in-Region.is in
@@ -88,44 +95,44 @@ pub end_operation-made-requires-clause-shown : goal.end_operation-made-requires-
 end_operation-made-requires-clause-shown g c =
     let w = c.requires.going in
     let e = w.2 in
-    (_, parts_read c.deref-in-Operation.ensures _ _ _ (operation_shown _ _ e.0 _ _ _ w.0 c.args.self.now c.args.ended c.in-Operation.open _ _ w.1.here w.1.around (sym w.1.made) c.in-Operation.is _ _ _ e.3.holds e.3.made e.4.out))
+    (_, parts_read c.deref-in-Operation.ensures _ _ _ (operation_shown _ _ e.0 _ _ _ w.0 c.args.self.now c.args.ended c.in-Operation.open _ w.1.here w.1.around (sym w.1.made) c.in-Operation.is _ _ _ e.3.holds e.3.made e.4.out))
 
 pub end_operation-made-requires-clause-can : goal.end_operation-made-requires-clause-can
 end_operation-made-requires-clause-can g c =
     let w = c.requires.going in
     let e = w.2 in
-    operation_can _ _ e.0 _ _ _ w.0 c.args.self.now c.args.ended c.in-Operation.open _ _ w.1.here w.1.around (sym w.1.made) c.in-Operation.is _ _ _ e.3.holds e.3.made e.4.out
+    operation_can _ _ e.0 _ _ _ w.0 c.args.self.now c.args.ended c.in-Operation.open _ w.1.here w.1.around (sym w.1.made) c.in-Operation.is _ _ _ e.3.holds e.3.made e.4.out
 
 pub returns-in-Operation-clause-raised : goal.returns-in-Operation-clause-raised
 returns-in-Operation-clause-raised g c whole text p next w at goes =
-    operation_raised _ _ text _ _ _ whole c.args.self.now c.args.ended c.in-Operation.open _ _ w.here w.around (sym w.made) c.in-Operation.is _ _ next at.holds at.made goes.out
+    operation_raised _ _ text _ _ _ whole c.args.self.now c.args.ended c.in-Operation.open _ w.here w.around (sym w.made) c.in-Operation.is _ _ next at.holds at.made goes.out
     _ _ c.end_operation-made.new.self (ap (λ v. v.items) c.end_operation-made.ensures.around.around) _ _ c.end_operation-made.result
     (λ shown. c.end_operation-made.ensures.ends _ (parts_read c.deref-in-Operation.ensures _ _ _ shown)) (λ shown. c.end_operation-made.ensures.made _ (parts_read c.deref-in-Operation.ensures _ _ _ shown))
     (on_ok_both c.end_operation-made.result c.end_operation-made.ensures.given c.end_operation-made.ensures.here (λ x y. (x.counter, y)))
 
 pub returns-in-Operation-clause-full : goal.returns-in-Operation-clause-full
 returns-in-Operation-clause-full g c whole text p next w at goes wrong =
-    operation_full _ _ text _ _ _ whole c.args.self.now c.args.ended c.in-Operation.open _ _ w.here w.around (sym w.made) c.in-Operation.is _ _ next at.holds at.made goes.out (c.end_operation-made.ensures.full wrong)
+    operation_full _ _ text _ _ _ whole c.args.self.now c.args.ended c.in-Operation.open _ w.here w.around (sym w.made) c.in-Operation.is _ _ next at.holds at.made goes.out (c.end_operation-made.ensures.full wrong)
 
 pub returns-in-Region-clause-raised : goal.returns-in-Region-clause-raised
 returns-in-Region-clause-raised g c whole text p next w at goes =
-    region_raised _ _ text _ _ _ whole c.end_region.new.self c.args.ended c.args.self.now.here c.args.self.now.around.items _ _ w.here w.around
+    region_raised _ _ text _ _ _ whole c.end_region.new.self c.args.ended c.args.self.now.here c.args.self.now.around.items _ w.here w.around
     (ap (λ v. v.items) c.end_region.ensures.around.around) (c.end_region.ensures.assembly ∙ sym w.made) _ _ next _ c.end_region.result at.holds at.made goes.out _ c.in-Region.blocks c.in-Region.is
     (λ o is. c.end_region.ensures.here o is)
 
 pub returns-clause-raised : goal.returns-clause-raised
 returns-clause-raised g c whole text p next w at goes =
-    block_raised _ _ text _ _ _ whole c.end_block.new.self c.args.ended c.args.self.now.here c.args.self.now.around.items _ _ w.here w.around
+    block_raised _ _ text _ _ _ whole c.end_block.new.self c.args.ended c.args.self.now.here c.args.self.now.around.items _ w.here w.around
     (ap (λ v. v.items) c.end_block.ensures.around.around) (c.end_block.ensures.assembly ∙ sym w.made) _ _ next _ c.end_block.result at.holds at.made goes.out goes.may c.in-Block.open c.in-Block.is
     (λ bs is. c.end_block.ensures.here bs is)
 
 pub returns-in-Text-clause-raised : goal.returns-in-Text-clause-raised
 returns-in-Text-clause-raised g c whole text p next w at goes =
-    text_stays _ _ text _ _ _ whole c.args.ended c.args.self.now.here c.args.self.now.around.items _ _ w.here w.around _ _ next at.holds at.made goes.out c.in-Text.is
+    text_stays _ _ text _ _ _ whole c.args.ended c.args.self.now.here c.args.self.now.around.items _ w.here w.around _ _ next at.holds at.made goes.out c.in-Text.is
 
 pub returns-in-Type-clause-raised : goal.returns-in-Type-clause-raised
 returns-in-Type-clause-raised g c whole text p next w at goes =
-    type_raised _ _ text _ _ _ _ whole c.end_type-made.new.self c.args.ended c.args.self.now.here c.args.self.now.around.items _ _ w.here w.around
+    type_raised _ _ text _ _ _ _ whole c.end_type-made.new.self c.args.ended c.args.self.now.here c.args.self.now.around.items _ w.here w.around
     (ap (λ v. v.items) c.end_type-made.ensures.around.around)
     (record { same = interned_same c.args.ctx.now c.end_type-made.new.ctx c.end_type-made.ensures.program c.end_type-made.ensures.types; counter = ap (λ q. q.counter) c.end_type-made.ensures.program })
     (c.end_type-made.ensures.assembly ∙ sym w.made) _ _ next _ c.end_type-made.result at.holds at.made goes.out
@@ -133,7 +140,7 @@ returns-in-Type-clause-raised g c whole text p next w at goes =
 
 pub returns-in-Attribute-clause-raised : goal.returns-in-Attribute-clause-raised
 returns-in-Attribute-clause-raised g c whole text p next w at goes =
-    attribute_raised _ _ text _ _ _ _ whole c.end_attribute-made.new.self c.args.ended c.args.self.now.here c.args.self.now.around.items _ _ w.here w.around
+    attribute_raised _ _ text _ _ _ _ whole c.end_attribute-made.new.self c.args.ended c.args.self.now.here c.args.self.now.around.items _ w.here w.around
     (ap (λ v. v.items) c.end_attribute-made.ensures.around.around)
     (record { same = interned_same c.args.ctx.now c.end_attribute-made.new.ctx c.end_attribute-made.ensures.program c.end_attribute-made.ensures.types; counter = ap (λ q. q.counter) c.end_attribute-made.ensures.program })
     (c.end_attribute-made.ensures.assembly ∙ sym w.made) _ _ next _ c.end_attribute-made.result at.holds at.made goes.out
@@ -141,22 +148,29 @@ returns-in-Attribute-clause-raised g c whole text p next w at goes =
 
 pub returns-in-List-clause-raised : goal.returns-in-List-clause-raised
 returns-in-List-clause-raised g c whole text p next w at goes =
-    list_raised _ _ text _ _ _ _ whole (record c.args.self.now { here = c.put.new.self }) c.args.ended c.args.self.now.here c.args.self.now.around.items _ _ w.here w.around
+    list_raised _ _ text _ _ _ _ whole (record c.args.self.now { here = c.put.new.self }) c.args.ended c.args.self.now.here c.args.self.now.around.items _ w.here w.around
     refl (nothing_made _) (sym w.made) _ _ next _ c.put.result at.holds at.made goes.out _ c.in-List.members c.in-List.is c.put.ensures.put
 
 pub returns-in-Item-clause-raised : goal.returns-in-Item-clause-raised
 returns-in-Item-clause-raised g c whole text p next w at goes =
-    let outer = list_around _ _ text _ _ _ whole c.args.ended c.args.self.now.here c.args.self.now.around.items _ _ w.here w.around _ _ next at.holds at.made goes.out c.in-Item.is in
-    item_raised _ _ text _ _ _ _ whole c.end_item.new.self c.args.ended c.args.self.now.here c.args.self.now.around.items _ _ w.here w.around
+    let outer = list_around _ _ text _ _ _ whole c.args.ended c.args.self.now.here c.args.self.now.around.items _ w.here w.around _ _ next at.holds at.made goes.out c.in-Item.is in
+    item_raised _ _ text _ _ _ _ whole c.end_item.new.self c.args.ended c.args.self.now.here c.args.self.now.around.items _ w.here w.around
     (ap (λ v. v.items) c.end_item.ensures.around.around) (nothing_made _) (c.end_item.ensures.assembly ∙ sym w.made) _ _ next _ c.end_item.result at.holds at.made goes.out
     _ outer.0 c.in-Item.is outer.1 (c.end_item.ensures.here outer.0 outer.1)
 
 pub returns-in-Operands-clause-raised : goal.returns-in-Operands-clause-raised
 returns-in-Operands-clause-raised g c whole text p next w at goes =
-    let outer = operation_around _ _ text _ _ _ whole c.args.ended c.args.self.now.here c.args.self.now.around.items _ _ w.here w.around _ _ next at.holds at.made goes.out c.in-Operands.tokens c.in-Operands.is in
-    operands_raised _ _ text _ _ _ _ whole c.end_operands-made.new.self c.args.ended c.args.self.now.here c.args.self.now.around.items _ _ w.here w.around
+    let outer = operation_around _ _ text _ _ _ whole c.args.ended c.args.self.now.here c.args.self.now.around.items _ w.here w.around _ _ next at.holds at.made goes.out c.in-Operands.tokens c.in-Operands.is in
+    operands_raised _ _ text _ _ _ _ whole c.end_operands-made.new.self c.args.ended c.args.self.now.here c.args.self.now.around.items _ w.here w.around
     (ap (λ v. v.items) c.end_operands-made.ensures.around.around) (nothing_made _) (c.end_operands-made.ensures.assembly ∙ sym w.made) _ _ next _ c.end_operands-made.result at.holds at.made goes.out
     _ c.in-Operands.tokens outer.0 c.in-Operands.is outer.1 (c.end_operands-made.ensures.here outer.0 outer.1)
+
+pub returns-in-Successor-clause-raised : goal.returns-in-Successor-clause-raised
+returns-in-Successor-clause-raised g c whole text p next w at goes =
+    let outer = operation_around_edge _ _ text _ _ _ whole c.args.ended c.args.self.now.here c.args.self.now.around.items _ w.here w.around _ _ next at.holds at.made goes.out c.in-Successor.tokens c.in-Successor.is in
+    edge_raised _ _ text _ _ _ _ whole c.end_successor-made.new.self c.args.ended c.args.self.now.here c.args.self.now.around.items _ w.here w.around
+    (ap (λ v. v.items) c.end_successor-made.ensures.around.around) (nothing_made _) (c.end_successor-made.ensures.assembly ∙ sym w.made) _ _ next _ c.end_successor-made.result at.holds at.made goes.out
+    _ refl c.in-Successor.tokens outer.0 c.in-Successor.is outer.1 (c.end_successor-made.ensures.here outer.0 outer.1)
 
 pub returns-in-Type-clause-undone : goal.returns-in-Type-clause-undone
 returns-in-Type-clause-undone g c = on_err_any _ (undone_so _ _ _ _ (interned_same c.args.ctx.now c.end_type-made.new.ctx c.end_type-made.ensures.program c.end_type-made.ensures.types)

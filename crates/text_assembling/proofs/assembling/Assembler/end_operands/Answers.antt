@@ -11,8 +11,9 @@ returns-clause-here g c o e = elim c.match-self.branch [
       let more : w.extend_from_slice.new.self.items ≡ w.in-Operation.open.operands.items ++ c.args.tokens.items = search rules in
       on_ok_weaker c.put.result
       (λ h. (
-        record { kind = w.in-Operation.open.kind; operands = w.extend_from_slice.new.self; regions = w.in-Operation.open.regions },
+        record { kind = w.in-Operation.open.kind; operands = w.extend_from_slice.new.self; labels = w.in-Operation.open.labels; regions = w.in-Operation.open.regions },
         put_with_body _ _ _ _ _ _ _ (ap (λ s. s.here) w.self-is) (ap part.Operands (c.len-count.ensures ∙ c.args.tokens.ok.0)) h,
+        cc (e, w.in-Operation.is),
         cc (e, w.in-Operation.is),
         cc (e, w.in-Operation.is),
         cc (e, w.in-Operation.is, more),

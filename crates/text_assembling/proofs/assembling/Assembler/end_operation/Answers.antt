@@ -85,9 +85,12 @@ pub push_reserved-requires : goal.push_reserved-requires
 push_reserved-requires g c =
     let room = c.in_ok-reserve.ensures.room in
     let wanted = room.1 in
+    let wanted_labels = room.2 in
     let same = ap length c.deref-6.ensures.value in
+    let same_labels = ap length c.deref-7.ensures.value in
     let many : c.len-2.result ≡ length c.args.ended.operands.items = search rules in
-    (room.0, omega (arith, wanted, same, many))
+    let many_labels : c.len-3.result ≡ length c.args.ended.labels.items = search rules in
+    (room.0, omega (arith, wanted, same, many), omega (arith, wanted_labels, same_labels, many_labels))
 
 pub attach-requires-clause-block : goal.attach-requires-clause-block
 attach-requires-clause-block g c =
@@ -130,8 +133,10 @@ returns-clause-ends g c ps shown =
           (makes_so _ _ _ _ _ _ _ _ _ _ _ refl count refl c.in_ok-op.ensures.made))
           c.deref-2.ensures.value c.deref-4.ensures.value c.deref_mut.ensures.value c.define_results.ensures many);
       numbers = c.attach.ensures.numbers;
-      pending = ap (λ v. v.items) c.attach.ensures.pending ∙ (c.push_reserved.ensures ∙ (ap (λ (xs : List Pending). xs ++ record { op = op; tokens = c.deref-6.result.now } ∷ []) c.reserve.ensures.items
-          ∙ ap (λ (ks : List ℕ). c.args.self.now.made.pending.items ++ record { op = op; tokens = ks } ∷ []) c.deref-6.ensures.value));
+      blocks = c.attach.ensures.labelled;
+      pending = ap (λ v. v.items) c.attach.ensures.pending ∙ (c.push_reserved.ensures ∙ (ap (λ (xs : List Pending). xs ++ record { op = op; tokens = c.deref-6.result.now; labels = c.deref-7.result.now } ∷ []) c.reserve.ensures.items
+          ∙ (ap (λ (ks : List ℕ). c.args.self.now.made.pending.items ++ record { op = op; tokens = ks; labels = c.deref-7.result.now } ∷ []) c.deref-6.ensures.value
+          ∙ ap (λ (ls : List ℕ). c.args.self.now.made.pending.items ++ record { op = op; tokens = c.args.ended.operands.items; labels = ls } ∷ []) c.deref-7.ensures.value)));
       root = c.attach.ensures.root;
       root_stays = c.attach.ensures.root_stays;
       loose = λ xs e. c.attach.ensures.loose ∙ ap (λ (ys : List IRNode). ys ++ new_root c.args.self.now.here.body op)

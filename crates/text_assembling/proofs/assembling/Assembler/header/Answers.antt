@@ -4,6 +4,8 @@ use Rattle.ir_characters.specs.Texts.{codes_of}
 use Rattle.ir_names.specs.Text.{is_identifier}
 use Rattle.ir_program.specs.Program.{arguments_at}
 use Rattle.ir_program.specs.declared.handles.DefiningEntity.TheVariants.{Block as ByBlock}
+use Rattle.ir_program.specs.declared.handles.BasicBlock.{BasicBlock}
+use Rattle.ir_program.specs.declared.handles.Ptr.{Ptr}
 use Rattle.ir_program.specs.declared.handles.IRNode.{IRNode}
 use Rattle.ir_program.specs.declared.handles.IRNode.TheVariants.{BasicBlock as BlockNode}
 use Rattle.text_frames.proofs.BuildingLemmas.Linked.{values_seen}
@@ -29,6 +31,7 @@ returns-clause-made g c =
           (types_in c.args.self.now.here.content.value.parts.items) c.deref-4.result.now c.args.self.now.here.numbers.items c.deref_mut.result.now c.args.self.now.made.values.items c.define_arguments.new.values
           (sym (values_seen c.open_block.new.ctx (ByBlock c.in_ok-block.block)) ∙ arguments_made _ _ c.in_ok-block.block c.in_ok-label.label c.deref-3.result.now c.args.ctx.now.program.counter opened)
           types c.deref-4.ensures.value c.deref_mut.ensures.value c.define_arguments.ensures many;
+      blocks = c.push_reserved-2.ensures.items ∙ ap (λ (bs : List (Ptr BasicBlock)). bs ++ c.in_ok-block.block ∷ []) c.reserve-2.ensures.items;
       pending = refl;
       root = refl;
       loose = c.push_reserved.ensures.items ∙ ap (λ (xs : List IRNode). xs ++ BlockNode c.in_ok-block.block ∷ []) c.reserve.ensures.items;

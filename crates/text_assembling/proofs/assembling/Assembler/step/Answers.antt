@@ -8,7 +8,7 @@ use Rattle.ir_forest.specs.Identifiers.{IsSpelt}
 use Rattle.ir_tokens.specs.Tokens.{text_between}
 use Rattle.text_frames.proofs.Moving.{is_number, is_width}
 use Rattle.text_assembling.proofs.Stepping.{end_refused}
-use Rattle.text_assembling.proofs.Stepped.{on_ok_both, stepped, stepped_result, stepped_argument, stepped_operand, stepped_name, stepped_number, stepped_width, stepped_operation, stepped_region, stepped_block, stepped_operands, stepped_type, stepped_attribute, stepped_list, stepped_item, stepped_header, stepped_end, ok_case, goes_out, can_header, header_is_full}
+use Rattle.text_assembling.proofs.Stepped.{on_ok_both, stepped, stepped_result, stepped_argument, stepped_operand, stepped_name, stepped_number, stepped_width, stepped_operation, stepped_region, stepped_block, stepped_operands, stepped_edge, stepped_type, stepped_attribute, stepped_list, stepped_item, stepped_header, stepped_end, ok_case, goes_out, can_header, header_is_full}
 use Rattle.text_assembling.proofs.assembling.Assembler.step.Goals as goal
 
 pub returns-in-Result-clause-went : goal.returns-in-Result-clause-went
@@ -22,7 +22,7 @@ pub returns-in-Operation-clause-went : goal.returns-in-Operation-clause-went
 returns-in-Operation-clause-went g c = on_ok_weaker c.begin_operation.result
     (λ w. record {
       steps = stepped g.D.TextDialect.says g.D.TextDialect.values (text_between (codes_of c.args.source.now.chars) c.args.source.now.starts.now) _ _ c.args.self.now c.begin_operation.new.self c.args.action (act.Operation c.in-Operation.kind) c.in-Operation.is
-          (stepped_operation g.D.TextDialect.says g.D.TextDialect.values (text_between (codes_of c.args.source.now.chars) c.args.source.now.starts.now) _ c.args.self.now c.begin_operation.new.self c.begin_operation.ensures.made c.in-Operation.kind w.0 w.1 w.2 w.3 w.4);
+          (stepped_operation g.D.TextDialect.says g.D.TextDialect.values (text_between (codes_of c.args.source.now.chars) c.args.source.now.starts.now) _ c.args.self.now c.begin_operation.new.self c.begin_operation.ensures.made c.in-Operation.kind w.0 w.1 w.2 w.3 w.4 w.5);
     })
     c.begin_operation.ensures.begun
 
@@ -73,6 +73,14 @@ returns-in-BeginOperands-clause-went g c = on_ok_weaker c.begin_operands.result
           (stepped_operands g.D.TextDialect.says g.D.TextDialect.values (text_between (codes_of c.args.source.now.chars) c.args.source.now.starts.now) _ c.args.self.now c.begin_operands.new.self c.begin_operands.ensures.made w.0 w.1 w.2);
     })
     c.begin_operands.ensures.begun
+
+pub returns-in-BeginSuccessor-clause-went : goal.returns-in-BeginSuccessor-clause-went
+returns-in-BeginSuccessor-clause-went g c = on_ok_weaker c.begin_successor.result
+    (λ w. record {
+      steps = stepped g.D.TextDialect.says g.D.TextDialect.values (text_between (codes_of c.args.source.now.chars) c.args.source.now.starts.now) _ _ c.args.self.now c.begin_successor.new.self c.args.action (act.BeginSuccessor) c.in-BeginSuccessor.is
+          (stepped_edge g.D.TextDialect.says g.D.TextDialect.values (text_between (codes_of c.args.source.now.chars) c.args.source.now.starts.now) _ c.args.self.now c.begin_successor.new.self c.begin_successor.ensures.made w.0 w.1 w.2);
+    })
+    c.begin_successor.ensures.begun
 
 pub returns-in-BeginList-clause-went : goal.returns-in-BeginList-clause-went
 returns-in-BeginList-clause-went g c = on_ok_weaker c.begin_list.result
@@ -128,7 +136,7 @@ pub returns-in-Operand-clause-went : goal.returns-in-Operand-clause-went
 returns-in-Operand-clause-went g c = ok_case c.operand.result _ (λ get. record {
   steps =
       stepped g.D.TextDialect.says g.D.TextDialect.values (text_between (codes_of c.args.source.now.chars) c.args.source.now.starts.now) _ _ c.args.self.now c.operand.new.self c.args.action (act.Operand) c.in-Operand.is
-      (stepped_operand g.D.TextDialect.says g.D.TextDialect.values (text_between (codes_of c.args.source.now.chars) c.args.source.now.starts.now) _ c.args.self.now c.operand.new.self c.operand.ensures.around c.operand.ensures.made (λ ks is. get _ (c.operand.ensures.here ks is)));
+      (stepped_operand g.D.TextDialect.says g.D.TextDialect.values (text_between (codes_of c.args.source.now.chars) c.args.source.now.starts.now) _ c.args.self.now c.operand.new.self c.operand.ensures.around c.operand.ensures.made (λ ks is. get _ (c.operand.ensures.here ks is)) (λ ks is. get _ (c.operand.ensures.handed_on ks is)));
 })
 
 pub header-requires-clause-known : goal.header-requires-clause-known

@@ -32,7 +32,7 @@ push_operand-requires-clause-value g c = c.loop-value.invariant.live c.loop-valu
 
 pub returns-in_err-push_operand-clause-err : goal.returns-in_err-push_operand-clause-err
 returns-in_err-push_operand-clause-err g c =
-    on_err c.from_residual.result (c.loop-value.value-index, omega arith, links_still c.loop-value.ctx c.push_operand.new.ctx c.push_operand.ensures.types (seen c.args.ctx.now) c.args.op (take c.loop-value.value-index c.args.values.now) c.loop-value.invariant.linked c.in_err-push_operand.ensures.err)
+    on_err c.from_residual.result (c.loop-value.value-index, omega arith, links_still c.loop-value.ctx c.push_operand.new.ctx c.push_operand.ensures.types (seen c.args.ctx.now) c.args.op (take c.loop-value.value-index c.args.values.now) [] c.loop-value.invariant.linked c.in_err-push_operand.ensures.err)
 
 pub returns-in_err-push_operand-clause-numbers : goal.returns-in_err-push_operand-clause-numbers
 returns-in_err-push_operand-clause-numbers g c =
@@ -50,7 +50,7 @@ loop-value-preserved g c =
     let u = seen c.push_operand.new.ctx in
     record {
       linked = subst (λ vs. LinksOperands s u c.args.op vs) (sym (take_step c.args.values.now i v here))
-          (links_both s (seen c.loop-value.ctx) u c.args.op (take i c.args.values.now) (v ∷ []) c.loop-value.invariant.linked
+          (links_both s (seen c.loop-value.ctx) u c.args.op (take i c.args.values.now) (v ∷ []) [] [] c.loop-value.invariant.linked
           (push_links c.loop-value.ctx c.push_operand.new.ctx c.push_operand.ensures.types c.args.op v c.in_ok-push_operand.ensures.pushed));
       live = still_live c.loop-value.ctx c.push_operand.new.ctx c.push_operand.ensures.values c.args.values.now c.loop-value.invariant.live;
       numbers = gives_still c.args.ctx.now.program c.loop-value.ctx.program c.push_operand.new.ctx.program 0 c.loop-value.invariant.numbers
