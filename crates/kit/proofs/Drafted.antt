@@ -1,6 +1,6 @@
 -- What operations are made with, of their parts.
-use Rattle.std.proofs.Common.{◌≡◌, ℕ, ◌+◌, Bool, true, false, cond, ◌&&◌, ◌⊎◌, inl, inr, List, [], ◌∷◌, length, Option, Some, None, option_map, option_and_then, nat_le, nat_lt, ◌==◌, ◌^◌, refl, sym, ap, ◌∙◌, subst, arith}
-use Rattle.std.proofs.lemmas.Bool.{and_parts, eqb-true, leb-true, lt-ltb}
+use Rattle.std.proofs.Common.{◌≡◌, ℕ, ◌+◌, Bool, true, false, cond, ◌&&◌, ◌⊎◌, inl, inr, List, [], ◌∷◌, length, Option, Some, None, option_map, option_and_then, Vec, Global, nat_le, nat_lt, ◌==◌, ◌^◌, refl, sym, ap, ◌∙◌, subst, arith}
+use Rattle.std.proofs.lemmas.Bool.{and_parts, eqb-true, eq-eqb, leb-true, lt-ltb}
 use Rattle.std.specs.List.{slice_get}
 use Rattle.ir_base.specs.declared.types.TypeHandle.{TypeHandle}
 use Rattle.ir_names.specs.declared.kinds.Signedness.{Signedness}
@@ -8,24 +8,24 @@ use Rattle.ir_names.specs.declared.identifier.Identifier.{Identifier}
 use Rattle.ir_names.specs.Identifier.{text_of}
 use Rattle.ir_names.specs.Tree.{LabelledTree, Trees, node, no_tree, a_tree}
 use Rattle.ir_print.specs.declared.format.Part.{Part}
-use Rattle.ir_print.specs.Pieces.{list, item, number, width, type_of_kind, attribute_of_kind, region, name, operands, ValueTree, Pieces}
-use Rattle.ir_print.specs.Shown.{Said, said_width, said_type, said_attribute, Shows, Pairs, said_name, said_region, said_operands, leaf, ShowsAll, ShowsPart, ShowsType}
+use Rattle.ir_print.specs.Pieces.{list, item, number, width, type_of_kind, attribute_of_kind, region, name, operands, successor, ValueTree, Pieces}
+use Rattle.ir_print.specs.Shown.{Said, said_width, said_type, said_attribute, Shows, Pairs, said_name, said_region, said_operands, said_successor, leaf, ShowsAll, ShowsPart, ShowsType}
 use Rattle.kit_ops.specs.declared.kinds.KitOp.{KitOp}
-use Rattle.kit_ops.specs.Keys.{symbol_name, function_type, constant_value, callee, callee_type}
-use Rattle.kit.specs.Forms.{OpForm, NamedRegion, TypedRegion, Value, TwoOperands, OneOperand, AnyOperands, Empty, Called}
+use Rattle.kit_ops.specs.Keys.{symbol_name, function_type, constant_value, callee, callee_type, segment_sizes}
+use Rattle.kit.specs.Forms.{OpForm, NamedRegion, TypedRegion, Value, TwoOperands, OneOperand, AnyOperands, Empty, Called, Edge, ConditionEdges}
 use Rattle.kit_ops.specs.declared.types.IntegerType.{IntegerType}
 use Rattle.kit_ops.specs.declared.types.KitType.{KitType}
 use Rattle.kit_ops.specs.declared.types.KitType.TheVariants as keys
 use Rattle.kit_ops.specs.declared.attributes.IntegerAttr.{IntegerAttr}
 use Rattle.kit_ops.specs.declared.attributes.KitAttr.{KitAttr}
 use Rattle.kit_ops.specs.declared.attributes.KitAttr.TheVariants as attrs
-use Rattle.kit.specs.Parts.{type_part, name_part, region_part, attribute_part, operands_part, is_one_operand, integer_of}
+use Rattle.kit.specs.Parts.{type_part, name_part, region_part, attribute_part, operands_part, successor_part, is_one_operand, integer_of}
 use Rattle.kit.specs.Numbers.{printed_number}
-use Rattle.kit.specs.Says.{says, one, two, only, has_values, integer_said, said_of_attribute, integer_types, is_attribute, is_name, is_type, is_region, are_operands, is_operand, call_said, refused_unless, refused_in}
-use Rattle.kit.specs.Making.{one_integer, module_name, function_header, one_operands, pair_type, call_header, returned_by, FormDrafts, MakesForm, RefusesForm}
+use Rattle.kit.specs.Says.{says, one, two, only, has_values, integer_said, said_of_attribute, integer_types, is_attribute, is_name, is_type, is_region, are_operands, is_operand, is_edge, call_said, condition_said, said_of_sizes, refused_unless, refused_in}
+use Rattle.kit.specs.Making.{one_integer, module_name, function_header, one_operands, pair_type, call_header, one_edge, edge_counts, returned_by, FormDrafts, MakesForm, RefusesForm}
 use Rattle.kit.specs.Readable.{constant_said_so}
 use Rattle.kit.specs.Seen.{seen}
-use Rattle.kit.proofs.Shapes.{name_shown, not_name, region_shown, not_region, type_shown, not_type, operands_shown, not_operands, operand_shown, not_operand, one_shown, two_shown, three_shown, not_one, not_two, not_three_pieces, attribute_shown}
+use Rattle.kit.proofs.Shapes.{name_shown, not_name, region_shown, not_region, type_shown, not_type, operands_shown, not_operands, operand_shown, not_operand, successor_shown, not_successor, one_shown, two_shown, three_shown, not_one, not_two, not_three_pieces, attribute_shown}
 use Rattle.kit.proofs.Made.{and_false}
 use Rattle.kit.proofs.Returned.{returned_shown}
 
@@ -61,6 +61,18 @@ not_three (Some a) (Some b) None e = inr (inr refl)
 not_three (Some a) None q e = inr (inl refl)
 not_three None p q e = inl refl
 
+-- two numbers of two options
+both_counts : (o p : Option ℕ) (a b : ℕ) → option_and_then (λ x. option_map (λ y. pair_of x y) p) o ≡ Some (pair_of a b) → (o ≡ Some a) × (p ≡ Some b)
+both_counts (Some x) (Some y) a b e = let same : pair_of x y ≡ pair_of a b = cc in (ap (λ v. Some v.0) same, ap (λ v. Some v.1) same)
+both_counts (Some x) None a b e = cc
+both_counts None p a b e = cc
+
+not_counts : (test : Bool) (o p : Option ℕ) → cond test (option_and_then (λ x. option_map (λ y. pair_of x y) p) o) None ≡ None → (test ≡ false) ⊎ ((o ≡ None) ⊎ (p ≡ None))
+not_counts false o p e = inl refl
+not_counts true (Some x) (Some y) e = cc
+not_counts true (Some x) None e = inr (inr refl)
+not_counts true None p e = inr (inl refl)
+
 -- a value where a test holds
 where_true : {X : Type 0} (b : Bool) (o : Option X) (x : X) → cond b o None ≡ Some x → (b ≡ true) × (o ≡ Some x)
 where_true true o x e = (refl, e)
@@ -70,6 +82,12 @@ not_where : {X : Type 0} (a b : Bool) (o : Option X) → cond (a && b) o None �
 not_where false b o e = inl refl
 not_where true false o e = inr (inl refl)
 not_where true true o e = inr (inr e)
+
+-- the sizes of the segments are those of the condition and of what the edges hand on
+sizes_said : (sizes : Vec ℕ Global) (a b : ℕ) → sizes.items ≡ 1 ∷ a ∷ b ∷ [] → said_of_sizes sizes.items (1 + (a + (b + 0))) ≡ Some (condition_said a b)
+sizes_said sizes a b e =
+    let plain : 1 + (a + b) ≡ 1 + (a + (b + 0)) = omega arith in
+    ap (λ xs. said_of_sizes xs (1 + (a + (b + 0)))) e ∙ ap (λ (test : Bool). only test (Some (condition_said a b))) (eq-eqb (1 + (a + b)) (1 + (a + (b + 0))) plain)
 
 -- the integer of an attribute
 an_integer : (o : Option KitAttr) (a : IntegerAttr) → option_and_then integer_of o ≡ Some a → o ≡ Some (attrs.Integer a)
@@ -107,6 +125,7 @@ mutual
   shows_later old new kept x (node list ts) h = (h.0, h.1, all_later old new kept h.0 ts h.2)
   shows_later old new kept x (node item ts) h = (h.0, h.1, all_later old new kept h.0 ts h.2)
   shows_later old new kept x (node (operands n) ts) h = h
+  shows_later old new kept x (node (successor n) ts) h = h
   shows_later old new kept x (node region ts) h = h
   shows_later old new kept x (node (name cs) ts) h = h
   shows_later old new kept x (node (number b m) ts) h = h
@@ -289,3 +308,37 @@ module _ {D : Type 0} where
   call_refused parts types e = λ ps h. ap (λ (b : Bool). refused_unless b 0) (not_three_pieces says types is_name are_operands is_type parts ps h
       (λ p q r t u v f s s' s''. and_false (is_name t) (are_operands u && is_type v) (elim (not_three (name_part p) (type_part r) (operands_part q) (sym (ap call_header f) ∙ e))
       [ inl g ↦ inl (not_name says types p t g s) | inr g ↦ inr (and_false (are_operands u) (is_type v) (elim g [ inl k ↦ inr (not_type says types r v k s'') | inr k ↦ inl (not_operands says types q u k s') ])) ])))
+
+  pub edge_made : (parts : List (Part D KitOp KitAttr KitType)) (n : ℕ) (types : List KitType) → one_edge parts ≡ Some n → MakesForm Edge parts types types [] []
+  edge_made [] n types e = cc
+  edge_made (p ∷ q ∷ rs) n types e = cc
+  edge_made (p ∷ []) n types e = λ ps h.
+      let only = one_shown says types p ps h in
+      let shown = successor_shown says types p n only.0 e only.2 in
+      subst (λ (qs : Pieces). (refused_in Edge qs ≡ None) × FormDrafts Edge types qs [] []) (sym (only.1 ∙ ap (λ t. a_tree t no_tree) shown.1))
+      (let same : n + 0 ≡ n = omega arith in (refl, record { pieces = one (leaf (said_successor (n + 0))); said = refl; shown = (ap (λ (i : ℕ). leaf (said_successor i)) same, tt); typed = tt }))
+
+  pub edge_refused : (parts : List (Part D KitOp KitAttr KitType)) (types : List KitType) → one_edge parts ≡ None → RefusesForm Edge parts types 0
+  edge_refused parts types e = λ ps h. ap (λ (b : Bool). refused_unless b 0) (not_one says types is_edge parts ps h (λ p t f s. not_successor says types p t (sym (ap one_edge f) ∙ e) s))
+
+  pub edges_made : (parts : List (Part D KitOp KitAttr KitType)) (a b : ℕ) (sizes : Vec ℕ Global) (types : List KitType) → edge_counts parts ≡ Some (pair_of a b) → sizes.items ≡ 1 ∷ a ∷ b ∷ [] →
+      MakesForm ConditionEdges parts types types ((segment_sizes, attrs.SegmentSizes sizes) ∷ []) []
+  edges_made [] a b sizes types e f = cc
+  edges_made (p ∷ []) a b sizes types e f = cc
+  edges_made (p ∷ q ∷ []) a b sizes types e f = cc
+  edges_made (p ∷ q ∷ r ∷ s ∷ rs) a b sizes types e f = cc
+  edges_made (p ∷ q ∷ r ∷ []) a b sizes types e f = λ ps h.
+      let pieces = three_shown says types p q r ps h in
+      let counts = where_true (is_one_operand p) (option_and_then (λ x. option_map (λ y. pair_of x y) (successor_part r)) (successor_part q)) (pair_of a b) e in
+      let edges = both_counts (successor_part q) (successor_part r) a b counts.1 in
+      let first = operand_shown says types p pieces.0 counts.0 pieces.4 in
+      let second = successor_shown says types q a pieces.1 edges.0 pieces.5 in
+      let third = successor_shown says types r b pieces.2 edges.1 pieces.6 in
+      subst (λ (qs : Pieces). (refused_in ConditionEdges qs ≡ None) × FormDrafts ConditionEdges types qs ((segment_sizes, attrs.SegmentSizes sizes) ∷ []) [])
+      (sym (pieces.3 ∙ (ap (λ t. a_tree t (a_tree pieces.1 (a_tree pieces.2 no_tree))) first.1 ∙ (ap (λ t. a_tree (node (operands 1) first.0) (a_tree t (a_tree pieces.2 no_tree))) second.1 ∙ ap (λ t. a_tree (node (operands 1) first.0) (a_tree (node (successor a) second.0) (a_tree t no_tree))) third.1))))
+      (refl, record { pieces = condition_said a b; said = sizes_said sizes a b f; shown = (refl, (refl, (refl, tt))); typed = tt })
+
+  pub edges_refused : (parts : List (Part D KitOp KitAttr KitType)) (types : List KitType) → edge_counts parts ≡ None → RefusesForm ConditionEdges parts types 0
+  edges_refused parts types e = λ ps h. ap (λ (b : Bool). refused_unless b 0) (not_three_pieces says types is_operand is_edge is_edge parts ps h
+      (λ p q r t u v f s s' s''. and_false (is_operand t) (is_edge u && is_edge v) (elim (not_counts (is_one_operand p) (successor_part q) (successor_part r) (sym (ap edge_counts f) ∙ e))
+      [ inl g ↦ inl (not_operand says types p t g s) | inr g ↦ inr (and_false (is_edge u) (is_edge v) (elim g [ inl k ↦ inl (not_successor says types q u k s') | inr k ↦ inr (not_successor says types r v k s'') ])) ])))

@@ -6,7 +6,7 @@ use Rattle.std.proofs.lemmas.Bool.Decides.{nat_tests}
 use Rattle.ir_names.specs.Tree.{LabelledTree, node, no_tree, a_tree, label_of}
 use Rattle.ir_print.specs.declared.format.Number.{Number}
 use Rattle.ir_print.specs.declared.format.Part.{Part}
-use Rattle.ir_print.specs.Pieces.{width, list, item, region, name, operands, number, type_of_kind, attribute_of_kind, ValueTree, Pieces}
+use Rattle.ir_print.specs.Pieces.{width, list, item, region, name, operands, successor, number, type_of_kind, attribute_of_kind, ValueTree, Pieces}
 use Rattle.ir_print.specs.Shown.{Said, IsNumber, said_number, leaf, ShowsPart, ShowsParts, ShowsAttribute}
 use Rattle.kit_ops.specs.declared.kinds.KitOp.{KitOp}
 use Rattle.kit_ops.specs.declared.types.KitType.{KitType}
@@ -82,6 +82,7 @@ module _ {D : Type 0} where
   no_values types q (node list ts) e h = refl
   no_values types q (node item ts) e h = refl
   no_values types q (node (operands n) ts) e h = refl
+  no_values types q (node (successor n) ts) e h = refl
   no_values types q (node region ts) e h = refl
   no_values types q (node (name cs) ts) e h = refl
   no_values types q (node (number b m) ts) e h = refl
@@ -94,6 +95,7 @@ module _ {D : Type 0} where
   no_number types w most p (node list ts) e h = refl
   no_number types w most p (node item ts) e h = refl
   no_number types w most p (node (operands n) ts) e h = refl
+  no_number types w most p (node (successor n) ts) e h = refl
   no_number types w most p (node region ts) e h = refl
   no_number types w most p (node (name cs) ts) e h = refl
   no_number types w most p (node (number b m) ts) e h = range_fails w b m (too_great w b m most h.0 (sym (ap number_part h.1) ∙ e) h.2)

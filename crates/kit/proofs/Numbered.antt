@@ -4,7 +4,6 @@ use Rattle.std.specs.List.{slice_get}
 use Rattle.std.specs.Result.{IfOk}
 use Rattle.ir_base.specs.declared.types.TypeHandle.{TypeHandle}
 use Rattle.text_dialect.specs.declared.dialect.MakeFault.{MakeFault}
-use Rattle.text_dialect.specs.declared.dialect.MakeFault.TheVariants.{Refused}
 use Rattle.text_dialect.specs.Making as made
 use Rattle.ir_print.specs.declared.format.Part.{Part}
 use Rattle.ir_names.specs.Tree.{Trees, node}
@@ -24,7 +23,6 @@ use Rattle.kit_ops.proofs.Operators as operators
 use Rattle.kit.specs.Forms.{OpForm, form_of, number_of, read_ops, read_types, read_attrs}
 use Rattle.kit.specs.Making.{MakesTypeOfKind, RefusesTypeOfKind, MakesForm, RefusesForm}
 use Rattle.kit.specs.Says.{says, values, said_in, numbered, refused_type, refused_attribute, refused_operation, refused_in, refused_by, result_types, result_types_in, result_types_by, canonical}
-use Rattle.kit.proofs.Made.{refused_at}
 
 -- the number of a kind of types
 abbrev pub number_of_type : KitTypeKind → ℕ
@@ -51,9 +49,9 @@ numbered_at n said = option_map {U = ℕ × Trees (Said KitAttr)} (λ us. (n, us
 is_kind : (x kind : KitOp) → Some x ≡ Some kind → number_of kind ≡ number_of x
 is_kind x kind e = let same : kind ≡ x = cc in ap number_of same
 
-of_operator : (kind : KitOp) (n : ℕ) → operators.operator_number kind ≡ Some n → number_of kind ≡ Some (suc (suc (suc (suc (suc (suc (suc n)))))))
-of_operator (ops.Arithmetic a) n e = let same : arithmetic_number a ≡ n = cc in ap (λ m. Some (suc (suc (suc (suc (suc (suc (suc m)))))))) same
-of_operator (ops.Comparison c) n e = let same : comparison_number c ≡ n = cc in ap (λ m. Some (suc (suc (suc (suc (suc (suc (suc m)))))))) same
+of_operator : (kind : KitOp) (n : ℕ) → operators.operator_number kind ≡ Some n → number_of kind ≡ Some (suc (suc (suc (suc (suc (suc (suc (suc (suc n)))))))))
+of_operator (ops.Arithmetic a) n e = let same : arithmetic_number a ≡ n = cc in ap (λ m. Some (suc (suc (suc (suc (suc (suc (suc (suc (suc m)))))))))) same
+of_operator (ops.Comparison c) n e = let same : comparison_number c ≡ n = cc in ap (λ m. Some (suc (suc (suc (suc (suc (suc (suc (suc (suc m)))))))))) same
 of_operator _ n e = cc
 
 op_number : (n : ℕ) (kind : KitOp) → slice_get read_ops n ≡ Some kind → number_of kind ≡ Some n
@@ -64,10 +62,12 @@ op_number (suc (suc (suc zero))) kind e = is_kind ops.Return kind e
 op_number (suc (suc (suc (suc zero)))) kind e = is_kind ops.Emit kind e
 op_number (suc (suc (suc (suc (suc zero))))) kind e = is_kind ops.ForwardRef kind e
 op_number (suc (suc (suc (suc (suc (suc zero)))))) kind e = is_kind ops.Call kind e
-op_number (suc (suc (suc (suc (suc (suc (suc n))))))) kind e = of_operator kind n (operators.numbered n kind e)
+op_number (suc (suc (suc (suc (suc (suc (suc zero))))))) kind e = is_kind ops.Br kind e
+op_number (suc (suc (suc (suc (suc (suc (suc (suc zero)))))))) kind e = is_kind ops.CondBr kind e
+op_number (suc (suc (suc (suc (suc (suc (suc (suc (suc n))))))))) kind e = of_operator kind n (operators.numbered n kind e)
 
--- the kinds behind the first seven are the operators
-pub operators_behind : (n : ℕ) → 7 ≤ n → slice_get read_ops n ≡ slice_get kinds.operators (n - 7)
+-- the kinds behind the first nine are the operators
+pub operators_behind : (n : ℕ) → 9 ≤ n → slice_get read_ops n ≡ slice_get kinds.operators (n - 9)
 operators_behind zero h = absurd (omega (arith, h))
 operators_behind (suc zero) h = absurd (omega (arith, h))
 operators_behind (suc (suc zero)) h = absurd (omega (arith, h))
@@ -75,8 +75,10 @@ operators_behind (suc (suc (suc zero))) h = absurd (omega (arith, h))
 operators_behind (suc (suc (suc (suc zero)))) h = absurd (omega (arith, h))
 operators_behind (suc (suc (suc (suc (suc zero))))) h = absurd (omega (arith, h))
 operators_behind (suc (suc (suc (suc (suc (suc zero)))))) h = absurd (omega (arith, h))
-operators_behind (suc (suc (suc (suc (suc (suc (suc n))))))) h =
-    let same : n ≡ suc (suc (suc (suc (suc (suc (suc n)))))) - 7 = omega arith in ap (slice_get kinds.operators) same
+operators_behind (suc (suc (suc (suc (suc (suc (suc zero))))))) h = absurd (omega (arith, h))
+operators_behind (suc (suc (suc (suc (suc (suc (suc (suc zero)))))))) h = absurd (omega (arith, h))
+operators_behind (suc (suc (suc (suc (suc (suc (suc (suc (suc n))))))))) h =
+    let same : n ≡ suc (suc (suc (suc (suc (suc (suc (suc (suc n)))))))) - 9 = omega arith in ap (slice_get kinds.operators) same
 
 -- what is said of a kind with a number is said of its form
 refused_so : (n : ℕ) (ps : Pieces) (kind : KitOp) (form : OpForm) → slice_get read_ops n ≡ Some kind → form_of kind ≡ Some form → refused_operation n ps ≡ refused_in form ps
@@ -121,14 +123,6 @@ module _ {D : Type 0} where
   pub operation_refused : (kind : KitOp) (form : OpForm) (parts : List (Part D KitOp KitAttr KitType)) (old : List KitType) (i : ℕ) → form_of kind ≡ Some form → RefusesForm form parts old i →
       made.RefusesOperation says values (slice_get read_ops) kind old parts i
   operation_refused kind form parts old i f h = λ n ps at s. refused_so n ps kind form at f ∙ h ps s
-
-  -- a kind that has no form has no number
-  unread : (kind : KitOp) (parts : List (Part D KitOp KitAttr KitType)) (old : List KitType) → form_of kind ≡ None → made.RefusesOperation says values (slice_get read_ops) kind old parts 0
-  unread kind parts old f = λ n ps at s. ap (λ k. refused_by (option_and_then form_of k) ps) at ∙ ap (λ g. refused_by g ps) f
-
-  pub unread_refused : {X : Type 0} (kind : KitOp) (parts : List (Part D KitOp KitAttr KitType)) (old : List KitType) (i : ℕ) → form_of kind ≡ None → ◌≡◌ {A = Result X MakeFault} (Err (Refused 0)) (Err (Refused i)) →
-      made.RefusesOperation says values (slice_get read_ops) kind old parts i
-  unread_refused {X} kind parts old i f e = refused_at {X = X} (λ j. made.RefusesOperation says values (slice_get read_ops) kind old parts j) 0 (unread kind parts old f) i e
 
 -- what is made of the parts of an attribute, of the kind with a number
 pub attribute_made : {D : Type 0} (kind : KitAttrKind) (parts : List (Part D KitOp KitAttr KitType)) (old new : List KitType) (r : Result KitAttr MakeFault) →

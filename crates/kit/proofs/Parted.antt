@@ -13,9 +13,9 @@ use Rattle.ir_names.specs.Tree.{Trees, node, no_tree, a_tree}
 use Rattle.ir_print.specs.declared.format.Part.{Part}
 use Rattle.ir_print.specs.declared.format.Part.TheVariants as part
 use Rattle.ir_print.specs.Pieces.{ValueTree, Pieces}
-use Rattle.ir_print.specs.Shown.{Said, said_type, said_attribute, said_list, said_item, said_region, said_name, said_operands, leaf, ShowsAll, ShowsPart, ShowsParts, ShowsMember, ShowsMembers, ShowsKey}
+use Rattle.ir_print.specs.Shown.{Said, said_type, said_attribute, said_list, said_item, said_region, said_name, said_operands, said_successor, leaf, ShowsAll, ShowsPart, ShowsParts, ShowsMember, ShowsMembers, ShowsKey}
 use Rattle.kit_ops.specs.declared.kinds.KitOp.{KitOp}
-use Rattle.kit_ops.specs.Keys.{symbol_name, function_type, constant_value, callee, callee_type}
+use Rattle.kit_ops.specs.Keys.{symbol_name, function_type, constant_value, callee, callee_type, segment_sizes}
 use Rattle.ir_program.specs.Program.{Program, TypedValue, OperationView, operation_at, results_at, type_in}
 use Rattle.ir_program.specs.Rows.{operands_at}
 use Rattle.ir_program.specs.declared.handles.Ptr.{Ptr}
@@ -24,16 +24,16 @@ use Rattle.ir_context.specs.Kept.{kind_at, notes_at}
 use Rattle.ir_context.specs.declared.notes.OperationData.{OperationData}
 use Rattle.ir_context.specs.declared.notes.OperationNotes.{OperationNotes}
 use Rattle.text_dialect.specs.Seen.{SeenOperation, seen_operation, types_of}
-use Rattle.kit.specs.Forms.{OpForm, NamedRegion, TypedRegion, Value, TwoOperands, OneOperand, AnyOperands, Empty, Called, form_of, number_of}
+use Rattle.kit.specs.Forms.{OpForm, NamedRegion, TypedRegion, Value, TwoOperands, OneOperand, AnyOperands, Empty, Called, Edge, ConditionEdges, form_of, number_of}
 use Rattle.kit_ops.specs.declared.types.KitType.{KitType}
 use Rattle.kit_ops.specs.declared.types.KitType.TheVariants as keys
 use Rattle.kit_ops.specs.declared.types.FunctionType.{FunctionType}
 use Rattle.kit_ops.specs.declared.attributes.IntegerAttr.{IntegerAttr}
 use Rattle.kit_ops.specs.declared.attributes.KitAttr.{KitAttr}
 use Rattle.kit_ops.specs.declared.attributes.KitAttr.TheVariants as attrs
-use Rattle.kit.specs.Parts.{IsTypeList, AreModuleParts, AreFunctionParts, AreCallParts}
-use Rattle.kit.specs.Says.{says, one, two, types_said, said_in, said_of_operation, said_of_module, said_of_function, said_of_constant, said_of_pair, pair_said, said_of_call, call_said}
-use Rattle.kit.specs.Readable.{only_if, is_numbered, constant_says}
+use Rattle.kit.specs.Parts.{IsTypeList, AreModuleParts, AreFunctionParts, AreCallParts, edge_parts, condition_parts}
+use Rattle.kit.specs.Says.{says, one, two, types_said, said_in, said_of_operation, said_of_module, said_of_function, said_of_constant, said_of_pair, pair_said, said_of_call, call_said, said_of_condition}
+use Rattle.kit.specs.Readable.{only_if, is_numbered, constant_says, condition_says}
 use Rattle.kit.specs.Seen.{SeenPiece, seen, none_seen, first_seen, one_seen, two_seen, three_seen}
 
 -- what follows for each value follows for that of a result
@@ -86,13 +86,6 @@ said_as kind form entries count tys o n us k f es cs ts e =
     let same : said.0 ≡ form = same_Some said.0 form (sym said.1 ∙ (ap form_of k ∙ f)) in
     ap (λ x. said_in form x count tys) es ∙ (ap (λ x. said_in form o.attributes x tys) cs ∙ (ap (λ x. said_in form o.attributes (length o.operands) x) ts ∙ (ap (λ x. said_in x o.attributes (length o.operands) (types_of o.results)) (sym same) ∙ said.3)))
 
--- an operation of a kind without a form says nothing
-pub says_none : {P : Type 0} (kind : KitOp) (o : SeenOperation KitOp KitAttr) (n : ℕ) (us : Trees (Said KitAttr)) → o.kind ≡ kind → form_of kind ≡ None →
-    said_of_operation o.kind o.attributes (length o.operands) (types_of o.results) ≡ Some (n, us) → P
-says_none kind o n us k f e =
-    let said = is_numbered (form_of o.kind) (number_of o.kind) (λ x. said_in x o.attributes (length o.operands) (types_of o.results)) n us e in
-    absurd (none-some said.0 (sym (ap form_of k ∙ f) ∙ said.1))
-
 module _ (D : Type 0) (types : List KitType) where
   -- the part of what is said shows its piece
   type_parted : (ty : TypeHandle) (t : ValueTree) → SeenPiece says types (leaf (said_type ty)) t → ShowsPart {D = D} says types (part.Type ty) t
@@ -109,6 +102,9 @@ module _ (D : Type 0) (types : List KitType) where
 
   operands_parted : (n : ℕ) (t : ValueTree) → SeenPiece says types (leaf (said_operands n)) t → ShowsPart {D = D} says types (part.Operands n) t
   operands_parted n t s = subst (λ (v : ValueTree). ShowsPart {D = D} says types (part.Operands n) v) (sym s.1) refl
+
+  successor_parted : (n : ℕ) (t : ValueTree) → SeenPiece says types (leaf (said_successor n)) t → ShowsPart {D = D} says types (part.Successor n) t
+  successor_parted n t s = subst (λ (v : ValueTree). ShowsPart {D = D} says types (part.Successor n) v) (sym s.1) refl
 
 module _ {D : Type 0} (types : List KitType) where
   abbrev pub items_of : Vec (Part D KitOp KitAttr KitType) Global → List (Part D KitOp KitAttr KitType)
@@ -250,3 +246,27 @@ module _ {D : Type 0} (types : List KitType) where
       let said = only_if (length entries == 0 && count == 0) (Some no_tree) us e in
       let shown = subst (λ (vs : Trees (Said KitAttr)). ShowsAll says types vs ps) (sym (same_Some no_tree us said.1)) h in
       subst (λ qs. ShowsParts says types qs ps) (sym is) (subst (λ (qs : Pieces). ShowsParts {D = D} says types [] qs) (sym (none_seen says types ps shown)) tt)
+
+  -- what an operation with one edge says
+  pub edge_parted : (entries : List (List ℕ × KitAttr)) (count : ℕ) (tys : List TypeHandle) (parts : List (Part D KitOp KitAttr KitType)) (us : Trees (Said KitAttr)) (ps : Pieces) → parts ≡ part.Successor count ∷ [] →
+      said_in Edge entries count tys ≡ Some us → ShowsAll says types us ps → ShowsParts says types parts ps
+  edge_parted entries count tys parts us ps is e h =
+      let said = only_if (length entries == 0) (Some (one (leaf (said_successor count)))) us e in
+      let shown = subst (λ (vs : Trees (Said KitAttr)). ShowsAll says types vs ps) (sym (same_Some (one (leaf (said_successor count))) us said.1)) h in
+      let piece = one_seen says types (leaf (said_successor count)) ps shown in
+      subst (λ qs. ShowsParts says types qs ps) (sym is) (subst (λ (qs : Pieces). ShowsParts {D = D} says types (part.Successor count ∷ []) qs) (sym piece.1) (successor_parted D types count piece.0 piece.2, tt))
+
+  -- what a conditional branch says
+  pub edges_parted : (entries : List (List ℕ × KitAttr)) (count : ℕ) (tys : List TypeHandle) (parts : List (Part D KitOp KitAttr KitType)) (us : Trees (Said KitAttr)) (ps : Pieces) → parts ≡ condition_parts (attribute_at entries segment_sizes) →
+      said_in ConditionEdges entries count tys ≡ Some us → ShowsAll says types us ps → ShowsParts says types parts ps
+  edges_parted entries count tys parts us ps is e h =
+      let said = only_if (length entries == 1) (said_of_condition (attribute_at entries segment_sizes) count) us e in
+      let condition = condition_says (attribute_at entries segment_sizes) count us said.1 in
+      let sizes = condition.say in
+      let a = sizes.first in
+      let b = sizes.second in
+      let shown = subst (λ (vs : Trees (Said KitAttr)). ShowsAll says types vs ps) (sym sizes.says_it) h in
+      let pieces = three_seen says types (leaf (said_operands 1)) (leaf (said_successor a)) (leaf (said_successor b)) ps shown in
+      let parts_are : parts ≡ part.Operands 1 ∷ part.Successor a ∷ part.Successor b ∷ [] = is ∙ (ap condition_parts condition.has_sizes ∙ ap edge_parts sizes.are) in
+      subst (λ qs. ShowsParts says types qs ps) (sym parts_are) (subst (λ (qs : Pieces). ShowsParts {D = D} says types (part.Operands 1 ∷ part.Successor a ∷ part.Successor b ∷ []) qs) (sym pieces.3)
+      (operands_parted D types 1 pieces.0 pieces.4, (successor_parted D types a pieces.1 pieces.5, (successor_parted D types b pieces.2 pieces.6, tt))))

@@ -10,13 +10,13 @@ use Rattle.ir_names.specs.Identifier.{text_of}
 use Rattle.ir_names.specs.Tree.{node, no_tree, a_tree}
 use Rattle.ir_print.specs.declared.format.Number.{Number}
 use Rattle.ir_print.specs.declared.format.Part.{Part}
-use Rattle.ir_print.specs.declared.format.Part.TheVariants.{outs-List, outs-Type, outs-Attribute, outs-Operands, outs-Region, outs-Name, outs-Number, outs-Width}
+use Rattle.ir_print.specs.declared.format.Part.TheVariants.{outs-List, outs-Type, outs-Attribute, outs-Operands, outs-Successor, outs-Region, outs-Name, outs-Number, outs-Width}
 use Rattle.ir_print.specs.declared.format.Part.TheVariants as part
-use Rattle.ir_print.specs.Pieces.{Piece, type_of_kind, attribute_of_kind, list, item, operands, region, name, number, width, ValueTree, Pieces}
+use Rattle.ir_print.specs.Pieces.{Piece, type_of_kind, attribute_of_kind, list, item, operands, successor, region, name, number, width, ValueTree, Pieces}
 use Rattle.ir_print.specs.Shown.{Saying, IsNumber, IsWidth, ShowsType, ShowsAttribute, ShowsPart, ShowsParts, ShowsMembers}
 use Rattle.kit_ops.specs.declared.types.IntegerType.{IntegerType}
-use Rattle.kit.specs.Parts.{number_part, integer_part, type_part, name_part, region_part, attribute_part, operands_part, is_one_operand, list_part}
-use Rattle.kit.specs.Says.{is_small_width, is_type, is_attribute, is_name, is_region, are_operands, is_operand, is_one, are_two, are_three}
+use Rattle.kit.specs.Parts.{number_part, integer_part, type_part, name_part, region_part, attribute_part, operands_part, successor_part, is_one_operand, list_part}
+use Rattle.kit.specs.Says.{is_small_width, is_type, is_attribute, is_name, is_region, are_operands, is_operand, is_edge, is_one, are_two, are_three}
 
 either_false : (b : Bool) → (b && false) ≡ false
 either_false true = refl
@@ -40,6 +40,9 @@ module _ {D K A T : Type 0} where
 
   no_list-Operands : (x : ℕ) → list_part {D = D} {A = K} {K = A} {T = T} (part.Operands x) ≡ None
   no_list-Operands x = rw outs-Operands refl
+
+  no_list-Successor : (x : ℕ) → list_part {D = D} {A = K} {K = A} {T = T} (part.Successor x) ≡ None
+  no_list-Successor x = rw outs-Successor refl
 
   no_list-Region : list_part {D = D} {A = K} {K = A} {T = T} part.Region ≡ None
   no_list-Region = rw outs-Region refl
@@ -76,6 +79,7 @@ module _ {D K A T : Type 0} (says : Saying K A T) (types : List T) where
   name_shown p x (node list ts) e h = let f = ap name_part h.1 in cc
   name_shown p x (node item ts) e h = absurd h
   name_shown p x (node (operands n) ts) e h = let f = ap name_part h in cc
+  name_shown p x (node (successor n) ts) e h = let f = ap name_part h in cc
   name_shown p x (node region ts) e h = let f = ap name_part h in cc
   name_shown p x (node (name cs) ts) e h = let f = ap name_part h.1 in let same : x ≡ h.0 = cc in (cs, ts, refl, ap text_of same ∙ h.2)
   name_shown p x (node (number b m) ts) e h = let f = ap name_part h.1 in cc
@@ -88,6 +92,7 @@ module _ {D K A T : Type 0} (says : Saying K A T) (types : List T) where
   not_name p (node list ts) e h = refl
   not_name p (node item ts) e h = refl
   not_name p (node (operands n) ts) e h = refl
+  not_name p (node (successor n) ts) e h = refl
   not_name p (node region ts) e h = refl
   not_name p (node (name cs) ts) e h = let f = ap name_part h.1 in cc
   not_name p (node (number b m) ts) e h = refl
@@ -100,6 +105,7 @@ module _ {D K A T : Type 0} (says : Saying K A T) (types : List T) where
   type_shown p x (node list ts) e h = let f = ap type_part h.1 in cc
   type_shown p x (node item ts) e h = absurd h
   type_shown p x (node (operands n) ts) e h = let f = ap type_part h in cc
+  type_shown p x (node (successor n) ts) e h = let f = ap type_part h in cc
   type_shown p x (node region ts) e h = let f = ap type_part h in cc
   type_shown p x (node (name cs) ts) e h = let f = ap type_part h.1 in cc
   type_shown p x (node (number b m) ts) e h = let f = ap type_part h.1 in cc
@@ -112,6 +118,7 @@ module _ {D K A T : Type 0} (says : Saying K A T) (types : List T) where
   not_type p (node list ts) e h = refl
   not_type p (node item ts) e h = refl
   not_type p (node (operands n) ts) e h = refl
+  not_type p (node (successor n) ts) e h = refl
   not_type p (node region ts) e h = refl
   not_type p (node (name cs) ts) e h = refl
   not_type p (node (number b m) ts) e h = refl
@@ -124,6 +131,7 @@ module _ {D K A T : Type 0} (says : Saying K A T) (types : List T) where
   region_shown p x (node list ts) e h = let f = ap region_part h.1 in cc
   region_shown p x (node item ts) e h = absurd h
   region_shown p x (node (operands n) ts) e h = let f = ap region_part h in cc
+  region_shown p x (node (successor n) ts) e h = let f = ap region_part h in cc
   region_shown p x (node region ts) e h = (ts, refl)
   region_shown p x (node (name cs) ts) e h = let f = ap region_part h.1 in cc
   region_shown p x (node (number b m) ts) e h = let f = ap region_part h.1 in cc
@@ -136,6 +144,7 @@ module _ {D K A T : Type 0} (says : Saying K A T) (types : List T) where
   not_region p (node list ts) e h = refl
   not_region p (node item ts) e h = refl
   not_region p (node (operands n) ts) e h = refl
+  not_region p (node (successor n) ts) e h = refl
   not_region p (node region ts) e h = let f = ap region_part h in cc
   not_region p (node (name cs) ts) e h = refl
   not_region p (node (number b m) ts) e h = refl
@@ -148,6 +157,7 @@ module _ {D K A T : Type 0} (says : Saying K A T) (types : List T) where
   attribute_shown p x (node list ts) e h = let f = ap attribute_part h.1 in cc
   attribute_shown p x (node item ts) e h = absurd h
   attribute_shown p x (node (operands n) ts) e h = let f = ap attribute_part h in cc
+  attribute_shown p x (node (successor n) ts) e h = let f = ap attribute_part h in cc
   attribute_shown p x (node region ts) e h = let f = ap attribute_part h in cc
   attribute_shown p x (node (name cs) ts) e h = let f = ap attribute_part h.1 in cc
   attribute_shown p x (node (number b m) ts) e h = let f = ap attribute_part h.1 in cc
@@ -160,6 +170,7 @@ module _ {D K A T : Type 0} (says : Saying K A T) (types : List T) where
   not_attribute p (node list ts) e h = refl
   not_attribute p (node item ts) e h = refl
   not_attribute p (node (operands n) ts) e h = refl
+  not_attribute p (node (successor n) ts) e h = refl
   not_attribute p (node region ts) e h = refl
   not_attribute p (node (name cs) ts) e h = refl
   not_attribute p (node (number b m) ts) e h = refl
@@ -172,6 +183,7 @@ module _ {D K A T : Type 0} (says : Saying K A T) (types : List T) where
   operands_shown p x (node list ts) e h = let f = ap operands_part h.1 in cc
   operands_shown p x (node item ts) e h = absurd h
   operands_shown p x (node (operands n) ts) e h = let f = ap operands_part h in let same : n ≡ x = cc in (ts, ap (λ (i : ℕ). node (operands i) ts) same)
+  operands_shown p x (node (successor n) ts) e h = let f = ap operands_part h in cc
   operands_shown p x (node region ts) e h = let f = ap operands_part h in cc
   operands_shown p x (node (name cs) ts) e h = let f = ap operands_part h.1 in cc
   operands_shown p x (node (number b m) ts) e h = let f = ap operands_part h.1 in cc
@@ -184,10 +196,37 @@ module _ {D K A T : Type 0} (says : Saying K A T) (types : List T) where
   not_operands p (node list ts) e h = refl
   not_operands p (node item ts) e h = refl
   not_operands p (node (operands n) ts) e h = let f = ap operands_part h in cc
+  not_operands p (node (successor n) ts) e h = refl
   not_operands p (node region ts) e h = refl
   not_operands p (node (name cs) ts) e h = refl
   not_operands p (node (number b m) ts) e h = refl
   not_operands p (node (width sign bits) ts) e h = refl
+
+  -- an edge is the piece of the number of operands that it hands on
+  pub successor_shown : (p : Part D K A T) (x : ℕ) (t : ValueTree) → successor_part p ≡ Some x → ShowsPart says types p t → (ts : Pieces) × (t ≡ node (successor x) ts)
+  successor_shown p x (node (type_of_kind n) ts) e h = let f = ap successor_part h.1 in cc
+  successor_shown p x (node (attribute_of_kind n) ts) e h = let f = ap successor_part h.1 in cc
+  successor_shown p x (node list ts) e h = let f = ap successor_part h.1 in cc
+  successor_shown p x (node item ts) e h = absurd h
+  successor_shown p x (node (operands n) ts) e h = let f = ap successor_part h in cc
+  successor_shown p x (node (successor n) ts) e h = let f = ap successor_part h in let same : n ≡ x = cc in (ts, ap (λ (i : ℕ). node (successor i) ts) same)
+  successor_shown p x (node region ts) e h = let f = ap successor_part h in cc
+  successor_shown p x (node (name cs) ts) e h = let f = ap successor_part h.1 in cc
+  successor_shown p x (node (number b m) ts) e h = let f = ap successor_part h.1 in cc
+  successor_shown p x (node (width sign bits) ts) e h = let f = ap successor_part h.1 in cc
+
+  -- what is no edge is no such piece
+  pub not_successor : (p : Part D K A T) (t : ValueTree) → successor_part p ≡ None → ShowsPart says types p t → is_edge t ≡ false
+  not_successor p (node (type_of_kind n) ts) e h = refl
+  not_successor p (node (attribute_of_kind n) ts) e h = refl
+  not_successor p (node list ts) e h = refl
+  not_successor p (node item ts) e h = refl
+  not_successor p (node (operands n) ts) e h = refl
+  not_successor p (node (successor n) ts) e h = let f = ap successor_part h in cc
+  not_successor p (node region ts) e h = refl
+  not_successor p (node (name cs) ts) e h = refl
+  not_successor p (node (number b m) ts) e h = refl
+  not_successor p (node (width sign bits) ts) e h = refl
 
   -- one operand is that piece
   pub operand_shown : (p : Part D K A T) (t : ValueTree) → is_one_operand p ≡ true → ShowsPart says types p t → (ts : Pieces) × (t ≡ node (operands 1) ts)
@@ -196,6 +235,7 @@ module _ {D K A T : Type 0} (says : Saying K A T) (types : List T) where
   operand_shown p (node list ts) e h = let f = ap is_one_operand h.1 in cc
   operand_shown p (node item ts) e h = absurd h
   operand_shown p (node (operands n) ts) e h = (ts, ap (λ (i : ℕ). node (operands i) ts) (eqb-true n 1 (sym (ap is_one_operand h) ∙ e)))
+  operand_shown p (node (successor n) ts) e h = let f = ap is_one_operand h in cc
   operand_shown p (node region ts) e h = let f = ap is_one_operand h in cc
   operand_shown p (node (name cs) ts) e h = let f = ap is_one_operand h.1 in cc
   operand_shown p (node (number b m) ts) e h = let f = ap is_one_operand h.1 in cc
@@ -208,6 +248,7 @@ module _ {D K A T : Type 0} (says : Saying K A T) (types : List T) where
   not_operand p (node list ts) e h = refl
   not_operand p (node item ts) e h = refl
   not_operand p (node (operands n) ts) e h = sym (ap is_one_operand h) ∙ e
+  not_operand p (node (successor n) ts) e h = refl
   not_operand p (node region ts) e h = refl
   not_operand p (node (name cs) ts) e h = refl
   not_operand p (node (number b m) ts) e h = refl
@@ -220,6 +261,7 @@ module _ {D K A T : Type 0} (says : Saying K A T) (types : List T) where
   number_shown p x (node list ts) e h = let f = ap number_part h.1 in cc
   number_shown p x (node item ts) e h = absurd h
   number_shown p x (node (operands n) ts) e h = let f = ap number_part h in cc
+  number_shown p x (node (successor n) ts) e h = let f = ap number_part h in cc
   number_shown p x (node region ts) e h = let f = ap number_part h in cc
   number_shown p x (node (name cs) ts) e h = let f = ap number_part h.1 in cc
   number_shown p x (node (number b m) ts) e h = (ts, ap (λ (k : Piece). node k ts) (number_bits b m h.0 x (sym (ap number_part h.1) ∙ e) h.2))
@@ -232,6 +274,7 @@ module _ {D K A T : Type 0} (says : Saying K A T) (types : List T) where
   list_shown p x (node list ts) e h = let same : h.0 ≡ x = some_same (sym (a_list h.0) ∙ (sym (ap list_part h.1) ∙ e)) in (ts, refl, subst (λ (ms : Vec (Vec (Part D K A T) Global) Global). ShowsMembers says types ms.items ts) same h.2)
   list_shown p x (node item ts) e h = absurd h
   list_shown p x (node (operands n) ts) e h = none_some x (sym (no_list-Operands n) ∙ (sym (ap list_part h) ∙ e))
+  list_shown p x (node (successor n) ts) e h = none_some x (sym (no_list-Successor n) ∙ (sym (ap list_part h) ∙ e))
   list_shown p x (node region ts) e h = none_some x (sym (no_list-Region) ∙ (sym (ap list_part h) ∙ e))
   list_shown p x (node (name cs) ts) e h = none_some x (sym (no_list-Name h.0) ∙ (sym (ap list_part h.1) ∙ e))
   list_shown p x (node (number b m) ts) e h = none_some x (sym (no_list-Number h.0) ∙ (sym (ap list_part h.1) ∙ e))
@@ -244,6 +287,7 @@ module _ {D K A T : Type 0} (says : Saying K A T) (types : List T) where
   width_shown p x (node list ts) e h = let f = ap integer_part h.1 in cc
   width_shown p x (node item ts) e h = absurd h
   width_shown p x (node (operands n) ts) e h = let f = ap integer_part h in cc
+  width_shown p x (node (successor n) ts) e h = let f = ap integer_part h in cc
   width_shown p x (node region ts) e h = let f = ap integer_part h in cc
   width_shown p x (node (name cs) ts) e h = let f = ap integer_part h.1 in cc
   width_shown p x (node (number b m) ts) e h = let f = ap integer_part h.1 in cc
@@ -256,6 +300,7 @@ module _ {D K A T : Type 0} (says : Saying K A T) (types : List T) where
   not_width p (node list ts) e h = refl
   not_width p (node item ts) e h = refl
   not_width p (node (operands n) ts) e h = refl
+  not_width p (node (successor n) ts) e h = refl
   not_width p (node region ts) e h = refl
   not_width p (node (name cs) ts) e h = refl
   not_width p (node (number b m) ts) e h = refl

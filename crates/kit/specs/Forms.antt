@@ -1,6 +1,6 @@
 -- Which kinds of `kit` can be read, in the order of their numbers, and what follows the dotted name of each: its form.
 use Rattle.std.specs.Prelude.{ℕ, suc, List, [], ◌∷◌, map, codes, Option, Some, None}
-use Rattle.ir_print.specs.Formats.{Formats, Kind, Step, Steps, no_steps, steps, word, operand, operands, an_attribute, a_type, a_region, symbol_name, a_number, a_width, list_of}
+use Rattle.ir_print.specs.Formats.{Formats, Kind, Step, Steps, no_steps, steps, word, operand, operands, successor, an_attribute, a_type, a_region, symbol_name, a_number, a_width, list_of}
 use Rattle.text_dialect.specs.Ids.{dotted}
 use Rattle.kit_ops.specs.declared.kinds.KitOp.{KitOp}
 use Rattle.kit_ops.specs.declared.kinds.KitOp.TheVariants as ops
@@ -23,6 +23,8 @@ pub data OpForm : Type 0 where
   Empty : OpForm
   -- the name of a function, any number of operands in brackets, and the type of the function
   Called : OpForm
+  -- an edge; an operand and two edges
+  Edge ConditionEdges : OpForm
 
 -- the form of a kind that can be read
 abbrev pub form_of : KitOp → Option OpForm
@@ -35,12 +37,12 @@ form_of ops.Emit = Some OneOperand
 form_of ops.Return = Some AnyOperands
 form_of ops.ForwardRef = Some Empty
 form_of ops.Call = Some Called
-form_of ops.Br = None
-form_of ops.CondBr = None
+form_of ops.Br = Some Edge
+form_of ops.CondBr = Some ConditionEdges
 
 -- the kinds of operations that can be read, by number
 abbrev pub read_ops : List KitOp
-read_ops = ops.Module ∷ ops.Func ∷ ops.Constant ∷ ops.Return ∷ ops.Emit ∷ ops.ForwardRef ∷ ops.Call ∷ operators
+read_ops = ops.Module ∷ ops.Func ∷ ops.Constant ∷ ops.Return ∷ ops.Emit ∷ ops.ForwardRef ∷ ops.Call ∷ ops.Br ∷ ops.CondBr ∷ operators
 
 -- the number of a kind that can be read
 abbrev pub number_of : KitOp → Option ℕ
@@ -51,10 +53,10 @@ number_of ops.Return = Some 3
 number_of ops.Emit = Some 4
 number_of ops.ForwardRef = Some 5
 number_of ops.Call = Some 6
-number_of (ops.Arithmetic a) = Some (suc (suc (suc (suc (suc (suc (suc (arithmetic_number a))))))))
-number_of (ops.Comparison c) = Some (suc (suc (suc (suc (suc (suc (suc (comparison_number c))))))))
-number_of ops.Br = None
-number_of ops.CondBr = None
+number_of ops.Br = Some 7
+number_of ops.CondBr = Some 8
+number_of (ops.Arithmetic a) = Some (suc (suc (suc (suc (suc (suc (suc (suc (suc (arithmetic_number a))))))))))
+number_of (ops.Comparison c) = Some (suc (suc (suc (suc (suc (suc (suc (suc (suc (comparison_number c))))))))))
 
 -- the kinds of types that can be read, by number
 abbrev pub read_types : List KitTypeKind
@@ -77,6 +79,8 @@ steps_in AnyOperands = steps (operands ∷ [])
 steps_in Empty = steps []
 steps_in Called = steps
     (symbol_name ∷ word (codes "(") (codes "(") ∷ operands ∷ word (codes ")") (codes ")") ∷ word (codes ": ") (codes ":") ∷ a_type ∷ [])
+steps_in Edge = steps (successor ∷ [])
+steps_in ConditionEdges = steps (operand ∷ word (codes ", ") (codes ",") ∷ successor ∷ word (codes ", ") (codes ",") ∷ successor ∷ [])
 
 -- the steps of a kind; none of one that can't be read
 abbrev pub steps_of_form : Option OpForm → Steps

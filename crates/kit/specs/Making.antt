@@ -14,7 +14,7 @@ use Rattle.kit_ops.specs.declared.types.KitType.TheVariants as keys
 use Rattle.kit_ops.specs.declared.attributes.IntegerAttr.{IntegerAttr}
 use Rattle.kit_ops.specs.declared.attributes.KitAttr.{KitAttr}
 use Rattle.kit.specs.Forms.{OpForm}
-use Rattle.kit.specs.Parts.{type_part, integer_part, list_part, name_part, region_part, attribute_part, operands_part, is_one_operand, integer_of}
+use Rattle.kit.specs.Parts.{type_part, integer_part, list_part, name_part, region_part, attribute_part, operands_part, successor_part, is_one_operand, integer_of}
 use Rattle.kit.specs.Says.{says, said_in, refused_type, refused_in, result_types_in}
 
 module _ {D : Type 0} where
@@ -62,6 +62,17 @@ module _ {D : Type 0} where
   abbrev pub call_header : List (Part D KitOp KitAttr KitType) → Option (Identifier × TypeHandle)
   call_header (p ∷ q ∷ r ∷ []) = option_and_then (λ id. option_and_then (λ ty. option_map (λ n. (id, ty)) (operands_part q)) (type_part r)) (name_part p)
   call_header _ = None
+
+  -- the number of operands that parts hand on, if they are an edge
+  abbrev pub one_edge : List (Part D KitOp KitAttr KitType) → Option ℕ
+  one_edge (p ∷ []) = successor_part p
+  one_edge _ = None
+
+  -- the numbers of operands that the edges hand on, of parts that are one operand and two edges
+  abbrev pub edge_counts : List (Part D KitOp KitAttr KitType) → Option (ℕ × ℕ)
+  edge_counts (p ∷ q ∷ r ∷ []) =
+      cond (is_one_operand p) (option_and_then (λ a. option_map (λ b. (a, b)) (successor_part r)) (successor_part q)) None
+  edge_counts _ = None
 
   -- the types that the members of a list are, if each is one
   abbrev pub each_type : List (Vec (Part D KitOp KitAttr KitType) Global) → Option (List TypeHandle)

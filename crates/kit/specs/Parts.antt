@@ -91,6 +91,18 @@ module _ {D A K T : Type 0} where
   operands_part (parts.Width s w) = None
   operands_part other = None
 
+  -- the number of operands that a part, an edge, hands on
+  abbrev pub successor_part : Part D A K T → Option ℕ
+  successor_part (parts.Operands n) = None
+  successor_part (parts.Successor n) = Some n
+  successor_part (parts.Attribute a) = None
+  successor_part (parts.Type t) = None
+  successor_part parts.Region = None
+  successor_part (parts.Name n) = None
+  successor_part (parts.Number n) = None
+  successor_part (parts.Width s w) = None
+  successor_part other = None
+
   -- the part is one operand
   abbrev pub is_one_operand : Part D A K T → Bool
   is_one_operand (parts.Operands n) = n == 1
@@ -136,6 +148,16 @@ module _ {D A K T : Type 0} where
   -- the parts of a call with these attributes as its function's name and type, and with so many operands
   abbrev pub AreCallParts : Option KitAttr → Option KitAttr → ℕ → List (Part D A K T) → Type 0
   AreCallParts o p n ps = (names : List (Part D A K T)) × AreNameParts o names × (ps ≡ names ++ (parts.Operands n ∷ type_parts_of p))
+
+  -- the parts of a conditional branch whose segments have these sizes: the condition, and the two edges
+  abbrev pub edge_parts : List ℕ → List (Part D A K T)
+  edge_parts (c ∷ a ∷ b ∷ []) = parts.Operands 1 ∷ parts.Successor a ∷ parts.Successor b ∷ []
+  edge_parts _ = []
+
+  -- the same with this attribute as its sizes, and none where it is no sizes
+  abbrev pub condition_parts : Option KitAttr → List (Part D A K T)
+  condition_parts (Some (attrs.SegmentSizes sizes)) = edge_parts sizes.items
+  condition_parts _ = []
 
   -- an integer's number, and its type
   abbrev pub integer_parts : IntegerAttr → List (Part D A K T)

@@ -1,10 +1,11 @@
 -- What types, attributes and operations say has the shape of their formats, and can be read.
-use Rattle.std.specs.Prelude.{◌≡◌, ℕ, suc, ◌+◌, ◌-◌, ◌*◌, ◌%◌, ◌^◌, ◌<◌, ◌≤◌, ◌==◌, ◌&&◌, nat_le, nat_lt, Bool, true, false, List, [], ◌∷◌, length, Option, Some, None, option_map, option_and_then, cond, slice_get, refl}
+use Rattle.std.specs.Prelude.{Vec, ◌≡◌, ℕ, suc, ◌+◌, ◌-◌, ◌*◌, ◌%◌, ◌^◌, ◌<◌, ◌≤◌, ◌==◌, ◌&&◌, nat_le, nat_lt, Bool, true, false, List, [], ◌∷◌, length, Option, Some, None, option_map, option_and_then, cond, slice_get, refl}
 use Rattle.std.proofs.Common.{sym, ap, ◌∙◌, subst, arith}
 use Rattle.std.proofs.Math.Pow.{pow_mono}
 use Rattle.std.proofs.Math.Nat.{mod-eq_of_lt}
 use Rattle.std.proofs.lemmas.Bool.{and_parts, eqb-true, eq-eqb, ltb-true, lt-ltb, leb-true, le-leb}
 use Rattle.std.proofs.lemmas.Option.{none-some, same_Some, some_pair_parts, slice_get-map}
+use Rattle.std.specs.Global.{Global}
 use Rattle.ir_base.specs.declared.types.TypeHandle.{TypeHandle}
 use Rattle.ir_names.specs.declared.kinds.Signedness.{Signedness}
 use Rattle.ir_names.specs.declared.identifier.Identifier.{Identifier}
@@ -13,8 +14,8 @@ use Rattle.ir_names.specs.Identifier.{text_of}
 use Rattle.ir_names.specs.Tree.{Trees, node, no_tree, a_tree}
 use Rattle.ir_print.specs.declared.format.Number.{Number}
 use Rattle.ir_print.specs.Formats.{a_type}
-use Rattle.ir_print.specs.Pieces.{type_of_kind, attribute_of_kind, list, item, operands, region, name, number, width, ValueTree, Pieces}
-use Rattle.ir_print.specs.Shown.{Said, said_type, said_attribute, said_list, said_item, said_operands, said_region, said_name, said_number, said_width, leaf, ShowsAll, operands_said}
+use Rattle.ir_print.specs.Pieces.{type_of_kind, attribute_of_kind, list, item, operands, successor, region, name, number, width, ValueTree, Pieces}
+use Rattle.ir_print.specs.Shown.{Said, said_type, said_attribute, said_list, said_item, said_operands, said_successor, said_region, said_name, said_number, said_width, leaf, ShowsAll, operands_said}
 use Rattle.kit_ops.specs.declared.kinds.KitOp.{KitOp}
 use Rattle.kit_ops.specs.declared.kinds.KitOp.TheVariants as ops
 use Rattle.kit_ops.specs.declared.types.KitType.{KitType}
@@ -25,12 +26,12 @@ use Rattle.kit_ops.specs.declared.attributes.IntegerAttr.{IntegerAttr}
 use Rattle.kit_ops.specs.declared.attributes.KitAttr.{KitAttr}
 use Rattle.kit_ops.specs.declared.attributes.KitAttr.TheVariants as attrs
 use Rattle.kit.specs.Numbers.{number_modulo, is_signed, is_below_zero, number_of_bits, printed_number}
-use Rattle.kit_ops.specs.Keys.{symbol_name, function_type, constant_value, callee, callee_type}
+use Rattle.kit_ops.specs.Keys.{symbol_name, function_type, constant_value, callee, callee_type, segment_sizes}
 use Rattle.kit_ops.specs.Kinds.{type_kind, attr_kind}
 use Rattle.kit_ops.specs.Arithmetic.{arithmetic_number, comparison_number}
 use Rattle.kit_ops.proofs.Operators.{arithmetic_at, comparison_at}
-use Rattle.kit.specs.Forms.{OpForm, NamedRegion, TypedRegion, Value, TwoOperands, OneOperand, AnyOperands, Empty, Called, form_of, number_of, steps_in, steps_of_form, read_ops, read_types, read_attrs, formats, op_kind, type_form, attr_form}
-use Rattle.kit.specs.Says.{says, values, one, two, only, types_said, said_of_type, said_of_attribute, said_of_operation, said_of_module, said_of_function, is_same_type, said_of_constant, said_of_pair, pair_said, said_of_call, call_said, said_in, numbered, has_values, integer_said, refused_unless, is_type_member, are_types, is_number_of, refused_type, refused_attribute, refused_in, refused_by, canonical}
+use Rattle.kit.specs.Forms.{OpForm, NamedRegion, TypedRegion, Value, TwoOperands, OneOperand, AnyOperands, Empty, Called, Edge, ConditionEdges, form_of, number_of, steps_in, steps_of_form, read_ops, read_types, read_attrs, formats, op_kind, type_form, attr_form}
+use Rattle.kit.specs.Says.{says, values, one, two, only, types_said, said_of_type, said_of_attribute, said_of_operation, said_of_module, said_of_function, is_same_type, said_of_constant, said_of_pair, pair_said, said_of_call, call_said, condition_said, said_of_sizes, said_of_condition, said_in, numbered, has_values, integer_said, refused_unless, is_type_member, are_types, is_number_of, refused_type, refused_attribute, refused_in, refused_by, canonical}
 use Rattle.kit.specs.Seen.{none_seen, first_seen, one_seen, two_seen, three_seen}
 use Rattle.ir_print.specs.Shapes.{parts_in, AreSaidAt, AreMembersSaidAt, IsTypeSaid, IsAttributeSaid, SaysTypes, SaysAttributes, SaysOperations}
 
@@ -250,6 +251,23 @@ call_read id ty count context ps h =
     let plain : count + 0 ≡ count = omega arith in
     record { shaped = ((tt, id.valid), (tt, (refl, tt))); read = ap (refused_in Called) is; operands = ap operands_said is ∙ plain }
 
+edge_read : (count : ℕ) → FormSaid Edge count (one (leaf (said_successor count)))
+edge_read count context ps h =
+    let piece = one_seen says context (leaf (said_successor count)) ps h in
+    let is : ps ≡ a_tree (node (successor count) piece.2.0) no_tree = piece.1 ∙ ap (λ (t : ValueTree). a_tree t no_tree) piece.2.1 in
+    let plain : count + 0 ≡ count = omega arith in
+    record { shaped = (refl, tt); read = ap (refused_in Edge) is; operands = ap operands_said is ∙ plain }
+
+edges_read : (a b : ℕ) → FormSaid ConditionEdges (1 + (a + b)) (condition_said a b)
+edges_read a b context ps h =
+    let pieces = three_seen says context (leaf (said_operands 1)) (leaf (said_successor a)) (leaf (said_successor b)) ps h in
+    let is : ps ≡ a_tree (node (operands 1) pieces.4.0) (a_tree (node (successor a) pieces.5.0) (a_tree (node (successor b) pieces.6.0) no_tree)) =
+    pieces.3 ∙ (ap (λ (t : ValueTree). a_tree t (a_tree pieces.1 (a_tree pieces.2 no_tree))) pieces.4.1
+    ∙ (ap (λ (t : ValueTree). a_tree (node (operands 1) pieces.4.0) (a_tree t (a_tree pieces.2 no_tree))) pieces.5.1
+    ∙ ap (λ (t : ValueTree). a_tree (node (operands 1) pieces.4.0) (a_tree (node (successor a) pieces.5.0) (a_tree t no_tree))) pieces.6.1)) in
+    let plain : 1 + (a + (b + 0)) ≡ 1 + (a + b) = omega arith in
+    record { shaped = (refl, (refl, (refl, tt))); read = ap (refused_in ConditionEdges) is; operands = ap operands_said is ∙ plain }
+
 -- a fact of what is said holds where it holds of what a name, a name and a type, a value, a result say
 is_said : (vs us : Trees (Said KitAttr)) (P : Trees (Said KitAttr) → Type 0) → ◌≡◌ {A = Option (Trees (Said KitAttr))} (Some vs) (Some us) → P vs → P us
 is_said vs us P e k = let same : vs ≡ us = cc in subst P same k
@@ -316,6 +334,37 @@ call_by : (P : Trees (Said KitAttr) → Type 0) (count : ℕ) → ((id : Identif
     (o p : Option KitAttr) (us : Trees (Said KitAttr)) → said_of_call o p count ≡ Some us → P us
 call_by P count k o p us e = let said = call_says o p count us e in subst P said.says_it (k said.name said.type)
 
+-- Segments of which anything is said are three, which add up to the operands: of one operand, and of what each edge hands on.
+pub record SizesSay (xs : List ℕ) (count : ℕ) (us : Trees (Said KitAttr)) : Type 0 where
+  pub first : ℕ
+  pub second : ℕ
+  pub are : xs ≡ 1 ∷ first ∷ second ∷ []
+  pub adds_up : 1 + (first + second) ≡ count
+  pub says_it : condition_said first second ≡ us
+
+pub sizes_say : (xs : List ℕ) (count : ℕ) (us : Trees (Said KitAttr)) → said_of_sizes xs count ≡ Some us → SizesSay xs count us
+sizes_say (c ∷ a ∷ b ∷ []) count us e =
+    let said = only_if (c == 1 && 1 + (a + b) == count) (Some (condition_said a b)) us e in
+    let tests = and_parts (c == 1) (1 + (a + b) == count) said.0 in
+    record {
+      first = a;
+      second = b;
+      are = ap (λ (n : ℕ). n ∷ a ∷ b ∷ []) (eqb-true c 1 tests.0);
+      adds_up = eqb-true (1 + (a + b)) count tests.1;
+      says_it = same_Some (condition_said a b) us said.1;
+    }
+sizes_say other count us e = absurd (none-some us e)
+
+-- A conditional branch that says anything has such sizes.
+pub record ConditionSays (o : Option KitAttr) (count : ℕ) (us : Trees (Said KitAttr)) : Type 0 where
+  pub sizes : Vec ℕ Global
+  pub has_sizes : o ≡ Some (attrs.SegmentSizes sizes)
+  pub say : SizesSay sizes.items count us
+
+pub condition_says : (o : Option KitAttr) (count : ℕ) (us : Trees (Said KitAttr)) → said_of_condition o count ≡ Some us → ConditionSays o count us
+condition_says (Some (attrs.SegmentSizes sizes)) count us e = record { sizes = sizes; has_sizes = refl; say = sizes_say sizes.items count us e }
+condition_says other count us e = absurd (none-some us e)
+
 -- the number of operands is right
 many_used : (many : Bool) (count used : ℕ) → (many && count == used) ≡ true → used ≡ count
 many_used many count used e = sym (eqb-true count used (and_parts many (count == used) e).1)
@@ -346,6 +395,15 @@ form_said Empty entries count tys us e =
 form_said Called entries count tys us e =
     let said = only_if (length entries == 2) (said_of_call (attribute_at entries callee) (attribute_at entries callee_type) count) us e in
     call_by (FormSaid Called count) count (λ id ty. call_read id ty count) (attribute_at entries callee) (attribute_at entries callee_type) us said.1
+form_said Edge entries count tys us e =
+    let said = only_if (length entries == 0) (Some (one (leaf (said_successor count)))) us e in
+    is_said (one (leaf (said_successor count))) us (FormSaid Edge count) said.1 (edge_read count)
+form_said ConditionEdges entries count tys us e =
+    let said = only_if (length entries == 1) (said_of_condition (attribute_at entries segment_sizes) count) us e in
+    let condition = condition_says (attribute_at entries segment_sizes) count us said.1 in
+    let sizes = condition.say in
+    subst (FormSaid ConditionEdges count) sizes.says_it
+    (subst (λ (c : ℕ). FormSaid ConditionEdges c (condition_said sizes.first sizes.second)) sizes.adds_up (edges_read sizes.first sizes.second))
 
 numbered_by : (k : ℕ) (said : Option (Trees (Said KitAttr))) (n : ℕ) (us : Trees (Said KitAttr)) → option_map {U = ℕ × Trees (Said KitAttr)} (λ vs. (k, vs)) said ≡ Some (n, us) → (Some k ≡ Some n) × (said ≡ Some us)
 numbered_by k (Some vs) n us e = let p = some_pair_parts k n vs us e in (ap Some p.0, ap Some p.1)
@@ -370,10 +428,10 @@ numbered_kind ops.Return n e = at_number 3 n ops.Return e refl
 numbered_kind ops.Emit n e = at_number 4 n ops.Emit e refl
 numbered_kind ops.ForwardRef n e = at_number 5 n ops.ForwardRef e refl
 numbered_kind ops.Call n e = at_number 6 n ops.Call e refl
-numbered_kind (ops.Arithmetic a) n e = at_number (suc (suc (suc (suc (suc (suc (suc (arithmetic_number a)))))))) n (ops.Arithmetic a) e (arithmetic_at a)
-numbered_kind (ops.Comparison c) n e = at_number (suc (suc (suc (suc (suc (suc (suc (comparison_number c)))))))) n (ops.Comparison c) e (comparison_at c)
-numbered_kind ops.Br n e = absurd (none-some n e)
-numbered_kind ops.CondBr n e = absurd (none-some n e)
+numbered_kind ops.Br n e = at_number 7 n ops.Br e refl
+numbered_kind ops.CondBr n e = at_number 8 n ops.CondBr e refl
+numbered_kind (ops.Arithmetic a) n e = at_number (suc (suc (suc (suc (suc (suc (suc (suc (suc (arithmetic_number a)))))))))) n (ops.Arithmetic a) e (arithmetic_at a)
+numbered_kind (ops.Comparison c) n e = at_number (suc (suc (suc (suc (suc (suc (suc (suc (suc (comparison_number c)))))))))) n (ops.Comparison c) e (comparison_at c)
 
 -- what operations say can be read
 pub says_operations : SaysOperations says formats values

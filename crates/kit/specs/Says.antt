@@ -1,16 +1,16 @@
 -- What the types, attributes and operations of `kit` say, and which pieces are refused.
-use Rattle.std.specs.Prelude.{ℕ, zero, suc, ◌*◌, ◌^◌, ◌==◌, ◌&&◌, nat_le, nat_lt, Bool, true, false, List, [], ◌∷◌, length, Option, Some, None, option_map, option_and_then, cond, slice_get}
+use Rattle.std.specs.Prelude.{ℕ, zero, suc, ◌+◌, ◌*◌, ◌^◌, ◌==◌, ◌&&◌, nat_le, nat_lt, Bool, true, false, List, [], ◌∷◌, length, Option, Some, None, option_map, option_and_then, cond, slice_get}
 use Rattle.ir_base.specs.declared.types.TypeHandle.{TypeHandle}
 use Rattle.ir_names.specs.declared.kinds.Signedness.{Signedness}
 use Rattle.ir_names.specs.Dictionary.{attribute_at}
 use Rattle.ir_names.specs.Identifier.{text_of}
 use Rattle.ir_names.specs.Tree.{LabelledTree, Trees, node, no_tree, a_tree, label_of, below}
 use Rattle.ir_print.specs.declared.format.Number.{Number}
-use Rattle.ir_print.specs.Pieces.{Piece, type_of_kind, attribute_of_kind, list, item, operands, region, name, number, width, ValueTree, Pieces, Values}
-use Rattle.ir_print.specs.Shown.{Said, said_type, said_attribute, said_list, said_item, said_operands, said_region, said_name, said_number, said_width, leaf, Saying}
+use Rattle.ir_print.specs.Pieces.{Piece, type_of_kind, attribute_of_kind, list, item, operands, successor, region, name, number, width, ValueTree, Pieces, Values}
+use Rattle.ir_print.specs.Shown.{Said, said_type, said_attribute, said_list, said_item, said_operands, said_successor, said_region, said_name, said_number, said_width, leaf, Saying}
 use Rattle.kit_ops.specs.declared.kinds.KitOp.{KitOp}
-use Rattle.kit_ops.specs.Keys.{symbol_name, function_type, constant_value, callee, callee_type}
-use Rattle.kit.specs.Forms.{OpForm, NamedRegion, TypedRegion, Value, TwoOperands, OneOperand, AnyOperands, Empty, Called, form_of, number_of, read_ops}
+use Rattle.kit_ops.specs.Keys.{symbol_name, function_type, constant_value, callee, callee_type, segment_sizes}
+use Rattle.kit.specs.Forms.{OpForm, NamedRegion, TypedRegion, Value, TwoOperands, OneOperand, AnyOperands, Empty, Called, Edge, ConditionEdges, form_of, number_of, read_ops}
 use Rattle.kit_ops.specs.declared.types.KitType.{KitType}
 use Rattle.kit_ops.specs.declared.types.KitType.TheVariants as types
 use Rattle.kit_ops.specs.declared.attributes.KitAttr.{KitAttr}
@@ -93,9 +93,23 @@ abbrev pub said_of_call : Option KitAttr → Option KitAttr → ℕ → Option (
 said_of_call (Some (attrs.Identifier id)) (Some (attrs.«Type» ty)) n = Some (call_said (text_of id) ty n)
 said_of_call _ _ n = None
 
+-- what a conditional branch says whose edges hand on so many operands
+abbrev pub condition_said : ℕ → ℕ → Trees (Said KitAttr)
+condition_said a b = a_tree (leaf (said_operands 1)) (two (leaf (said_successor a)) (leaf (said_successor b)))
+
+-- the same of one with segments of these sizes and so many operands: there are three segments, the first of which has one
+-- operand, and the operands are those of the segments
+abbrev pub said_of_sizes : List ℕ → ℕ → Option (Trees (Said KitAttr))
+said_of_sizes (c ∷ a ∷ b ∷ []) n = only (c == 1 && 1 + (a + b) == n) (Some (condition_said a b))
+said_of_sizes _ n = None
+
+abbrev pub said_of_condition : Option KitAttr → ℕ → Option (Trees (Said KitAttr))
+said_of_condition (Some (attrs.SegmentSizes sizes)) n = said_of_sizes sizes.items n
+said_of_condition _ n = None
+
 -- An operation of a form says its own attributes and its operands, if it has no others. A constant says its value, which has
 -- the type of its result, and an operation with two operands says the type of its result. The types of a call's results the
--- type of the function says.
+-- type of the function says. A conditional branch says the sizes of its segments by what its edges hand on.
 abbrev pub said_in : OpForm → (entries : List (List ℕ × KitAttr)) → (operands : ℕ) → (results : List TypeHandle) → Option (Trees (Said KitAttr))
 said_in NamedRegion entries n tys = only (length entries == 1 && n == 0) (said_of_module (attribute_at entries symbol_name))
 said_in TypedRegion entries n tys =
@@ -106,6 +120,8 @@ said_in OneOperand entries n tys = only (length entries == 0 && n == 1) (Some (o
 said_in AnyOperands entries n tys = only (length entries == 0) (Some (one (leaf (said_operands n))))
 said_in Empty entries n tys = only (length entries == 0 && n == 0) (Some no_tree)
 said_in Called entries n tys = only (length entries == 2) (said_of_call (attribute_at entries callee) (attribute_at entries callee_type) n)
+said_in Edge entries n tys = only (length entries == 0) (Some (one (leaf (said_successor n))))
+said_in ConditionEdges entries n tys = only (length entries == 1) (said_of_condition (attribute_at entries segment_sizes) n)
 
 -- the same with the number of the kind, where there is a form and a number
 abbrev pub numbered : Option OpForm → Option ℕ → (OpForm → Option (Trees (Said KitAttr))) → Option (ℕ × Trees (Said KitAttr))
@@ -162,6 +178,11 @@ are_operands _ = false
 abbrev pub is_operand : ValueTree → Bool
 is_operand (node (operands n) _) = n == 1
 is_operand _ = false
+
+-- the piece is an edge
+abbrev pub is_edge : ValueTree → Bool
+is_edge (node (successor n) _) = true
+is_edge _ = false
 
 -- the pieces are one, of which this holds
 abbrev pub is_one : (ValueTree → Bool) → Pieces → Bool
@@ -239,8 +260,8 @@ abbrev pub form_at : ℕ → Option OpForm
 form_at n = option_and_then form_of (slice_get read_ops n)
 
 -- An operation of a form is refused whose pieces are not those of it: a name and a region, a name, a type and a region, an
--- attribute, two operands and a type, one operand, operands, none, a name, operands and a type. The attributes that are read
--- are integers.
+-- attribute, two operands and a type, one operand, operands, none, a name, operands and a type, an edge, one operand and two
+-- edges. The attributes that are read are integers.
 abbrev pub refused_in : OpForm → Pieces → Option ℕ
 refused_in NamedRegion ps = refused_unless (are_two is_name is_region ps) 0
 refused_in TypedRegion ps = refused_unless (are_three is_name is_type is_region ps) 0
@@ -250,6 +271,8 @@ refused_in OneOperand ps = refused_unless (is_one is_operand ps) 0
 refused_in AnyOperands ps = refused_unless (is_one are_operands ps) 0
 refused_in Empty ps = refused_unless (are_none ps) 0
 refused_in Called ps = refused_unless (are_three is_name are_operands is_type ps) 0
+refused_in Edge ps = refused_unless (is_one is_edge ps) 0
+refused_in ConditionEdges ps = refused_unless (are_three is_operand is_edge is_edge ps) 0
 
 abbrev pub refused_by : Option OpForm → Pieces → Option ℕ
 refused_by None ps = Some 0

@@ -2,8 +2,8 @@
 use Rattle.std.specs.Prelude.{◌≡◌, ℕ, List, refl}
 use Rattle.std.proofs.Common.{sym, subst}
 use Rattle.ir_names.specs.Tree.{LabelledTree, Trees, node, no_tree, a_tree}
-use Rattle.ir_print.specs.Pieces.{type_of_kind, attribute_of_kind, list, item, operands, region, name, number, width, ValueTree, Pieces}
-use Rattle.ir_print.specs.Shown.{Said, said_type, said_attribute, said_list, said_item, said_operands, said_region, said_name, said_number, said_width, Saying, Shows, ShowsAll, ShowsType, ShowsAttribute}
+use Rattle.ir_print.specs.Pieces.{type_of_kind, attribute_of_kind, list, item, operands, successor, region, name, number, width, ValueTree, Pieces}
+use Rattle.ir_print.specs.Shown.{Said, said_type, said_attribute, said_list, said_item, said_operands, said_successor, said_region, said_name, said_number, said_width, Saying, Shows, ShowsAll, ShowsType, ShowsAttribute}
 
 module _ {K A T : Type 0} (says : Saying K A T) (types : List T) where
   -- the piece of what is said
@@ -13,6 +13,7 @@ module _ {K A T : Type 0} (says : Saying K A T) (types : List T) where
   SeenPiece (node said_list us) t = (ts : Pieces) × (t ≡ node list ts) × ShowsAll says types us ts
   SeenPiece (node said_item us) t = (ts : Pieces) × (t ≡ node item ts) × ShowsAll says types us ts
   SeenPiece (node (said_operands n) us) t = (ts : Pieces) × (t ≡ node (operands n) ts)
+  SeenPiece (node (said_successor n) us) t = (ts : Pieces) × (t ≡ node (successor n) ts)
   SeenPiece (node said_region us) t = (ts : Pieces) × (t ≡ node region ts)
   SeenPiece (node (said_name cs) us) t = (ts : Pieces) × (t ≡ node (name cs) ts)
   SeenPiece (node (said_number negative magnitude) us) t = (ts : Pieces) × (t ≡ node (number negative magnitude) ts)
@@ -25,6 +26,7 @@ module _ {K A T : Type 0} (says : Saying K A T) (types : List T) where
   seen x (node list ts) h = subst (λ y. SeenPiece y (node list ts)) (sym h.1) (ts, refl, h.2)
   seen x (node item ts) h = subst (λ y. SeenPiece y (node item ts)) (sym h.1) (ts, refl, h.2)
   seen x (node (operands n) ts) h = subst (λ y. SeenPiece y (node (operands n) ts)) (sym h) (ts, refl)
+  seen x (node (successor n) ts) h = subst (λ y. SeenPiece y (node (successor n) ts)) (sym h) (ts, refl)
   seen x (node region ts) h = subst (λ y. SeenPiece y (node region ts)) (sym h) (ts, refl)
   seen x (node (name cs) ts) h = subst (λ y. SeenPiece y (node (name cs) ts)) (sym h) (ts, refl)
   seen x (node (number negative magnitude) ts) h = subst (λ y. SeenPiece y (node (number negative magnitude) ts)) (sym h) (ts, refl)

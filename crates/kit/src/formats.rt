@@ -38,6 +38,16 @@ const CALL: &[Directive] = &[
     Directive::Type,
 ];
 
+const EDGE: &[Directive] = &[Directive::Successor];
+
+const CONDITION_EDGES: &[Directive] = &[
+    Directive::Operand,
+    Directive::Literal(", "),
+    Directive::Successor,
+    Directive::Literal(", "),
+    Directive::Successor,
+];
+
 const WIDTH: &[Directive] = &[Directive::Width];
 
 const TYPE: &[Directive] = &[Directive::Type];
@@ -74,7 +84,9 @@ pub(crate) fn operation_kind_at(number: usize) -> Option<KitOp>
         4 => Some(KitOp::Emit),
         5 => Some(KitOp::ForwardRef),
         6 => Some(KitOp::Call),
-        _ => KitOp::operator_at(number - 7),
+        7 => Some(KitOp::Br),
+        8 => Some(KitOp::CondBr),
+        _ => KitOp::operator_at(number - 9),
     }
 }
 
@@ -145,7 +157,7 @@ pub(crate) fn attribute_name(kind: KitAttrKind) -> &'static str
     }
 }
 
-/// What follows the name of an operation; nothing where nothing does, or the kind can't be read.
+/// What follows the name of an operation; nothing where nothing does.
 pub(crate) fn operation_format(kind: KitOp) -> &'static [Directive]
     ensures { steps_of result.now ≡ (op_kind kind).format }
 {
@@ -158,7 +170,9 @@ pub(crate) fn operation_format(kind: KitOp) -> &'static [Directive]
         KitOp::Emit => ONE_OPERAND,
         KitOp::Return => ANY_OPERANDS,
         KitOp::Call => CALL,
-        KitOp::ForwardRef | KitOp::Br | KitOp::CondBr => &[],
+        KitOp::Br => EDGE,
+        KitOp::CondBr => CONDITION_EDGES,
+        KitOp::ForwardRef => &[],
     }
 }
 

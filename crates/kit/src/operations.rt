@@ -12,20 +12,22 @@ ghost use Rattle.text_dialect.specs.Making as made;
 ghost use Rattle.text_dialect.specs.Seen.{SeenOperation, seen, types_of};
 ghost use Rattle.text_dialect.specs.declared.dialect.MakeFault.TheVariants.{Refused};
 ghost use Rattle.ir_types.specs.Interned.{KeepsTypes, key_at};
-ghost use Rattle.kit_ops.specs.Keys.{symbol_name, function_type, constant_value, callee, callee_type};
+ghost use Rattle.kit_ops.specs.Keys.{symbol_name, function_type, constant_value, callee, callee_type, segment_sizes};
 ghost use Rattle.kit_ops.specs.declared.attributes.IntegerAttr.{IntegerAttr};
 ghost use Rattle.kit_ops.specs.declared.attributes.KitAttr.{KitAttr};
 ghost use Rattle.kit_ops.specs.declared.attributes.KitAttr.TheVariants.{Integer};
 ghost use Rattle.kit_ops.specs.declared.kinds.KitOp.{KitOp};
 ghost use Rattle.kit_ops.specs.declared.types.KitType.{KitType};
 ghost use Rattle.kit_ops.specs.declared.types.KitType.TheVariants.{Integer as IntegerKey};
-ghost use Rattle.kit.specs.Forms.{NamedRegion, TypedRegion, Value, TwoOperands, OneOperand, AnyOperands, Empty, Called, read_ops};
+ghost use Rattle.kit.specs.Forms.{NamedRegion, TypedRegion, Value, TwoOperands, OneOperand, AnyOperands, Empty, Called, Edge, ConditionEdges, read_ops};
 ghost use Rattle.kit.specs.Making.{MakesForm, RefusesForm, returned_by};
-ghost use Rattle.kit.specs.Parts.{AreNameParts, AreModuleParts, AreFunctionParts, AreCallParts};
+ghost use Rattle.kit.specs.Parts.{AreNameParts, AreModuleParts, AreFunctionParts, AreCallParts, condition_parts};
 ghost use Rattle.kit.specs.Says.{says, values};
 
 use crate::dialect::Kit;
-use crate::parts::{call_in, constant_in, function_in, module_in, operands_in, pair_in};
+use crate::parts::{
+    call_in, constant_in, edge_in, edges_in, function_in, module_in, operands_in, pair_in,
+};
 use ir_context::{Context, OperandCalls, OperationCalls, ResultCalls};
 use ir_names::{AttributeDict, Identifier, TypeHandle};
 use ir_print::Part;
@@ -248,6 +250,45 @@ fn make_call(
     Ok(draft(attributes, result_types))
 }
 
+/// What an operation with one edge is made with: nothing.
+fn make_br(alloc: Global, parts: &[Part<Kit>]) -> Result<OperationDraft<Kit>, MakeFault>
+    ensures made { IfOk result (λ draft. (types : List KitType)
+        → MakesForm Edge parts.now types types draft.attributes draft.result_types.items) }
+    ensures refused { (i : ℕ) → result ≡ Err (Refused i) → (types : List KitType)
+        → RefusesForm Edge parts.now types i }
+{
+    let Some(_count) = edge_in(parts) else {
+        return Err(MakeFault::Refused(0));
+    };
+    Ok(draft(AttributeDict::new(alloc), Vec::new(alloc)))
+}
+
+/// Sizes of segments: one operand, and then these. There is no memory for sizes past 32 bits.
+fn sizes_of(alloc: Global, first: usize, second: usize) -> Result<Vec<u32>, AllocError>
+    ensures { IfOk result (λ sizes. sizes.items ≡ 1 ∷ first ∷ second ∷ []) }
+{
+    let most = u32::MAX as usize;
+    if first > most || second > most {
+        return Err(AllocError);
+    }
+    Ok(vec![in alloc; 1, first as u32, second as u32]?)
+}
+
+/// What a conditional branch is made with: the sizes of its segments, which are the condition and what each edge hands on.
+fn make_cond_br(alloc: Global, parts: &[Part<Kit>]) -> Result<OperationDraft<Kit>, MakeFault>
+    ensures made { IfOk result (λ draft. (types : List KitType)
+        → MakesForm ConditionEdges parts.now types types draft.attributes draft.result_types.items) }
+    ensures refused { (i : ℕ) → result ≡ Err (Refused i) → (types : List KitType)
+        → RefusesForm ConditionEdges parts.now types i }
+{
+    let Some((first, second)) = edges_in(parts) else {
+        return Err(MakeFault::Refused(0));
+    };
+    let sizes = sizes_of(alloc, first, second)?;
+    let attributes = one_entry(alloc, keys::SEGMENT_SIZES, KitAttr::SegmentSizes(sizes))?;
+    Ok(draft(attributes, Vec::new(alloc)))
+}
+
 /// What an operation of these parts is made with, or the first part that is refused. The type of a constant is interned, and
 /// the unit type where an operation has nothing behind its name.
 ///
@@ -276,8 +317,8 @@ pub(crate) fn make_operation(
         KitOp::Return => make_of_operands(alloc, parts),
         KitOp::ForwardRef => make_of_nothing(alloc, ctx, parts),
         KitOp::Call => make_call(alloc, ctx, parts),
-        KitOp::Br => Err(MakeFault::Refused(0)),
-        KitOp::CondBr => Err(MakeFault::Refused(0)),
+        KitOp::Br => make_br(alloc, parts),
+        KitOp::CondBr => make_cond_br(alloc, parts),
     }
 }
 
@@ -340,6 +381,23 @@ fn call_parts(
     Ok(parts)
 }
 
+/// The parts of a conditional branch: its condition, and an edge for each of the sizes behind that of the condition.
+fn edge_parts(alloc: Global, attributes: &AttributeDict<Kit>) -> Result<Vec<Part<Kit>>, AllocError>
+    ensures { IfOk result (λ parts. parts.items ≡ condition_parts (attribute_at attributes.now segment_sizes)) }
+{
+    match attributes.get(keys::SEGMENT_SIZES) {
+        Some(KitAttr::SegmentSizes(sizes)) => match sizes.as_slice() {
+            [_, first, second] => {
+                let first = Part::Successor(*first as usize);
+                let second = Part::Successor(*second as usize);
+                Ok(vec![in alloc; Part::Operands(1), first, second]?)
+            }
+            _ => Ok(Vec::new(alloc)),
+        },
+        _ => Ok(Vec::new(alloc)),
+    }
+}
+
 /// The parts of a constant: its value, where that is an integer.
 fn constant_parts(
     alloc: Global,
@@ -373,7 +431,7 @@ fn pair_parts(
     Ok(vec![in alloc; Part::Operands(1), Part::Operands(1), Part::Type(ty)]?)
 }
 
-/// The parts of an operation. Operands and regions are given by how many there are of them. An operation that can't be
+/// The parts of an operation. Operands, edges and regions are given by how many there are of them. An operation that can't be
 /// read has none.
 pub(crate) fn operation_parts(
     alloc: Global,
@@ -397,7 +455,7 @@ pub(crate) fn operation_parts(
         KitOp::Return => Ok(vec![in alloc; Part::Operands(op.get_num_operands(ctx))]?),
         KitOp::Call => call_parts(alloc, attributes, op.get_num_operands(ctx)),
         KitOp::ForwardRef => Ok(Vec::new(alloc)),
-        KitOp::Br => Ok(Vec::new(alloc)),
-        KitOp::CondBr => Ok(Vec::new(alloc)),
+        KitOp::Br => Ok(vec![in alloc; Part::Successor(op.get_num_operands(ctx))]?),
+        KitOp::CondBr => edge_parts(alloc, attributes),
     }
 }

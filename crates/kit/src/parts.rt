@@ -1,6 +1,6 @@
 //! What parts that were read are.
 ghost use Rattle.std.specs.Prelude.{◌≡◌, IfOk, option_copied, option_map};
-ghost use Rattle.kit.specs.Making.{one_type, one_integer_type, module_name, function_header, one_integer, one_operands, pair_type, call_header, each_type};
+ghost use Rattle.kit.specs.Making.{one_type, one_integer_type, module_name, function_header, one_integer, one_operands, pair_type, call_header, one_edge, edge_counts, each_type};
 ghost use Rattle.kit.specs.Parts.{number_part, integer_part, list_part, is_one_operand, IsTypeList};
 
 use crate::dialect::Kit;
@@ -130,6 +130,16 @@ pub(crate) fn operands_in(parts: &[Part<Kit>]) -> Option<usize>
     }
 }
 
+/// The number of operands that parts hand on, if they are an edge.
+pub(crate) fn edge_in(parts: &[Part<Kit>]) -> Option<usize>
+    ensures { result ≡ one_edge parts.now }
+{
+    match parts {
+        [Part::Successor(count)] => Some(*count),
+        _ => None,
+    }
+}
+
 /// The name and the type of parts that are a name, operands and a type.
 pub(crate) fn call_in(parts: &[Part<Kit>]) -> Option<(&Identifier, TypeHandle)>
     ensures { option_map (λ e. (e.0.now, e.1)) result ≡ call_header parts.now }
@@ -158,6 +168,22 @@ pub(crate) fn pair_in(parts: &[Part<Kit>]) -> Option<TypeHandle>
         [left, right, Part::Type(ty)] => {
             if is_operand(left) && is_operand(right) {
                 Some(*ty)
+            } else {
+                None
+            }
+        }
+        _ => None,
+    }
+}
+
+/// The numbers of operands that the edges hand on, of parts that are one operand and two edges.
+pub(crate) fn edges_in(parts: &[Part<Kit>]) -> Option<(usize, usize)>
+    ensures { result ≡ edge_counts parts.now }
+{
+    match parts {
+        [condition, Part::Successor(first), Part::Successor(second)] => {
+            if is_operand(condition) {
+                Some((*first, *second))
             } else {
                 None
             }

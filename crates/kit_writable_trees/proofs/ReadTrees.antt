@@ -6,17 +6,16 @@ use Rattle.ir_forest.specs.Bare.{AreBare, AreBareTrees, IsBare, AreBareArguments
 use Rattle.ir_forest.specs.Closed.{AllDistinct, IsClosedTree, AreLabelled, labels_of, number_in, regions_said, AreOperations, AreBlocks, AreRegions}
 use Rattle.ir_print.specs.Layout.{Deeper, IsFlat, AreFlat, AreShallow, AreFlatArguments}
 use Rattle.ir_print.specs.Pieces.{ValueTree, Pieces, operation, a_region, block, Entity, entity, Entities, no_entity, an_entity}
-use Rattle.ir_print.specs.Shown.{Pairs, ShowsType}
+use Rattle.ir_print.specs.Shown.{Pairs, ShowsType, successors_said}
 use Rattle.ir_program.specs.Program.{OperationView, BlockView, RegionView, TypedValue, operation_at, block_at, region_at}
 use Rattle.ir_program.specs.declared.handles.Ptr.{Ptr}
 use Rattle.ir_program.specs.declared.handles.Operation.{Operation}
 use Rattle.ir_program.specs.declared.handles.Region.{Region}
 use Rattle.ir_program.specs.declared.handles.BasicBlock.{BasicBlock}
-use Rattle.ir_program.specs.declared.handles.Value.{Value}
 use Rattle.ir_trees.specs.Stands.{by_handle, in_program, head_of, defined_by, AreTree, no_operations, no_blocks, no_regions, first_operation, first_block, first_region, StandsFor}
 use Rattle.ir_trees.specs.Trees.{Sort, Operations, Blocks, Regions, Tree}
 use Rattle.text_dialect.specs.Seen.{SeenOperation, SeenBlock, seen, seen_operation, seen_block, types_of}
-use Rattle.text_dialect.specs.Standing.{HasDefinition, HasHead, HasOwnLabel, IsLabel, HaveRegionTrees, HaveBlockTrees, HaveTrees, StandsForTexts}
+use Rattle.text_dialect.specs.Standing.{Naming, HasDefinition, HasHead, HasOwnLabel, IsLabel, HaveRegionTrees, HaveBlockTrees, HaveTrees, StandsForTexts}
 use Rattle.kit.specs.Meaning.{KitOperation, KitBlock}
 use Rattle.kit_language.specs.Language.{kit_language}
 use Rattle.kit_ops.specs.declared.attributes.KitAttr.{KitAttr}
@@ -33,6 +32,13 @@ is_none : {X : Type 0} (xs : List X) → length xs ≡ 0 → xs ≡ []
 is_none [] e = refl
 is_none (x ∷ xs) e = cc
 
+-- lists are as long of which each is beside one
+as_long : {X Y : Type 0} (R : X → Y → Type 0) (xs : List X) (ys : List Y) → Pairs R xs ys → length xs ≡ length ys
+as_long R [] [] h = refl
+as_long R [] (y ∷ ys) h = absurd h
+as_long R (x ∷ xs) [] h = absurd h
+as_long R (x ∷ xs) (y ∷ ys) h = ap suc (as_long R xs ys h.1)
+
 -- one deeper, of what holds there
 deeper : (d : ℕ) (P Q : ℕ → Type 0) → ((e : ℕ) → P e → Q e) → Deeper d P → Deeper d Q
 deeper zero P Q f h = absurd h
@@ -47,9 +53,9 @@ types_same (v ∷ vs) = ap (λ tys. v.ty ∷ tys) (types_same vs)
 abbrev KitPart : Sort → Type 0
 KitPart k = Tree by_handle (in_program KitOperation KitBlock) k
 
-module _ {N : Type 0} (s : WritableContext) (Naming : Value → N → Type 0) where
+module _ {N : Type 0} (s : WritableContext) (Named : Naming N) where
   -- definitions have the types that are written beside them
-  typed_so : (vs : List TypedValue) (xs : List (N × ValueTree)) → Pairs (HasDefinition says Naming s.types.keys) vs xs
+  typed_so : (vs : List TypedValue) (xs : List (N × ValueTree)) → Pairs (HasDefinition says Named s.types.keys) vs xs
       → Pairs (ShowsType says s.types.keys) (types_of vs) (map (λ x. x.1) xs)
   typed_so [] [] h = tt
   typed_so [] (x ∷ xs) h = absurd h
@@ -70,7 +76,7 @@ module _ {N : Type 0} (s : WritableContext) (Naming : Value → N → Type 0) wh
 
   -- there are as many regions
   as_many : (rs : List (Ptr Region)) (x : KitPart Regions) (ts : Entities N)
-      → AreTree s.program Regions rs x → HaveRegionTrees says Naming HasOwnLabel (seen s) rs ts → number_in ts ≡ count_of x
+      → AreTree s.program Regions rs x → HaveRegionTrees says Named HasOwnLabel (seen s) rs ts → number_in ts ≡ count_of x
   as_many [] x no_entity no_regions h = refl
   as_many [] x (an_entity t ts) no_regions h = absurd h
   as_many (r ∷ rs) x no_entity (first_region _ _ v bs rest there inner after) h = absurd h
@@ -100,25 +106,27 @@ module _ {N : Type 0} (s : WritableContext) (Naming : Value → N → Type 0) wh
 
   -- the labels of blocks are those of their texts
   labels_so : (bs : List (Ptr BasicBlock)) (x : KitPart Blocks) (ts : Entities N) → AreTree s.program Blocks bs x
-      → HaveBlockTrees says Naming HasOwnLabel (seen s) bs ts → labels_in x ≡ labels_of ts
+      → HaveBlockTrees says Named HasOwnLabel (seen s) bs ts → labels_in x ≡ labels_of ts
   labels_so [] x no_entity no_blocks h = refl
   labels_so [] x (an_entity t ts) no_blocks h = absurd h
   labels_so (b ∷ bs) x no_entity (first_block _ _ v os rest there inner after) h = absurd h
-  labels_so (b ∷ bs) x (an_entity (entity (block label arguments) us) ts) (first_block _ _ v os rest there inner after) h =
+  labels_so (b ∷ bs) x (an_entity (entity (block named label arguments) us) ts) (first_block _ _ v os rest there inner after) h =
       let block_here = h.0 in
       let is : seen_block v ≡ block_here.0 = same_block b v block_here.0 there block_here.1 in
       let labelled : IsLabel v.payload.label label = subst (λ (o : SeenBlock). IsLabel o.label label) (sym is) block_here.2.labelled in
       ap (λ cs. cs ++ labels_in rest) (label_so v.payload.label label labelled)
       ∙ ap (λ cs. (label ∷ []) ++ cs) (labels_so bs rest ts after h.1)
-  labels_so (b ∷ bs) x (an_entity (entity (operation kind results used pieces) us) ts) (first_block _ _ v os rest there inner after) h = absurd h.0
+  labels_so (b ∷ bs) x (an_entity (entity (operation kind results used successors pieces) us) ts) (first_block _ _ v os rest there inner after) h = absurd h.0
   labels_so (b ∷ bs) x (an_entity (entity a_region us) ts) (first_block _ _ v os rest there inner after) h = absurd h.0
 
   -- an operation with a text can be written
   head_so : (d regions : ℕ) (p : Ptr Operation) (v : OperationView KitOperation) (kind : ℕ) (results : List (N × ValueTree))
-      (used : List N) (pieces : Pieces) → HasHead says Naming s.types.keys (seen_operation v) kind results used pieces
-      → map (λ x. x.1) results ≡ values.result_types kind pieces → regions_said pieces ≡ regions → AreFlat d pieces
+      (used successors : List N) (pieces : Pieces)
+      → HasHead says Named s.types.keys (seen_operation v) kind results used successors pieces
+      → map (λ x. x.1) results ≡ values.result_types kind pieces → regions_said pieces ≡ regions
+      → successors_said pieces ≡ length successors → AreFlat d pieces
       → AreBare pieces → IsWritableHead s.types.keys d regions (head_of p v)
-  head_so d regions p v kind results used pieces h read holds flat bare = record {
+  head_so d regions p v kind results used successors pieces h read holds counted flat bare = record {
     kind = kind;
     said = h.said;
     pieces = pieces;
@@ -132,58 +140,58 @@ module _ {N : Type 0} (s : WritableContext) (Naming : Value → N → Type 0) wh
     holds = holds;
     flat = flat;
     bare = bare;
-    no_successors = h.no_successors;
+    counted = counted ∙ sym (as_long Named.block v.successors successors h.goes_on);
   }
 
   mutual
     operations_so : (d : ℕ) (ps : List (Ptr Operation)) (x : KitPart Operations) (ts : Entities N)
-        → AreTree s.program Operations ps x → HaveTrees says Naming HasOwnLabel (seen s) ps ts → AreOperations values ts
+        → AreTree s.program Operations ps x → HaveTrees says Named HasOwnLabel (seen s) ps ts → AreOperations values ts
         → AreShallow d ts → AreBareTrees ts → AreLabelled ts → IsWritable s.types.keys d x
     operations_so d [] x ts no_operations h closed shallow bare labelled = tt
     operations_so d (p ∷ ps) x no_entity (first_operation _ _ v rs rest there inner after) h closed shallow bare labelled = absurd h
-    operations_so d (p ∷ ps) x (an_entity (entity (operation kind results used pieces) us) ts)
+    operations_so d (p ∷ ps) x (an_entity (entity (operation kind results used successors pieces) us) ts)
         (first_operation _ _ v rs rest there inner after) h closed shallow bare labelled =
         let here = h.0 in
         let is : seen_operation v ≡ here.0 = same_operation p v here.0 there here.1 in
-        let head = subst (λ o. HasHead says Naming s.types.keys o kind results used pieces) (sym is) here.2 in
-        let trees = subst (λ (o : SeenOperation KitOp KitAttr). HaveRegionTrees says Naming HasOwnLabel (seen s) o.regions us) (sym is) here.3 in (
-          head_so d (count_of rs) p v kind results used pieces head closed.0.0
-              (closed.0.1 ∙ as_many v.regions rs us inner trees) shallow.0.0 bare.0.0,
-          regions_so d v.regions rs us inner trees closed.0.2 shallow.0.1 bare.0.1 labelled.0.1,
+        let head = subst (λ o. HasHead says Named s.types.keys o kind results used successors pieces) (sym is) here.2 in
+        let trees = subst (λ (o : SeenOperation KitOp KitAttr). HaveRegionTrees says Named HasOwnLabel (seen s) o.regions us) (sym is) here.3 in (
+          head_so d (count_of rs) p v kind results used successors pieces head closed.0.0
+              (closed.0.1 ∙ as_many v.regions rs us inner trees) closed.0.2 shallow.0.0 bare.0.0,
+          regions_so d v.regions rs us inner trees closed.0.3 shallow.0.1 bare.0.1 labelled.0.1,
           operations_so d ps rest ts after h.1 closed.1 shallow.1 bare.1 labelled.1,
         )
     operations_so d (p ∷ ps) x (an_entity (entity a_region us) ts) (first_operation _ _ v rs rest there inner after) h closed shallow bare labelled = absurd h.0
-    operations_so d (p ∷ ps) x (an_entity (entity (block label arguments) us) ts) (first_operation _ _ v rs rest there inner after) h closed shallow bare labelled = absurd h.0
+    operations_so d (p ∷ ps) x (an_entity (entity (block named label arguments) us) ts) (first_operation _ _ v rs rest there inner after) h closed shallow bare labelled = absurd h.0
 
     regions_so : (d : ℕ) (rs : List (Ptr Region)) (x : KitPart Regions) (ts : Entities N)
-        → AreTree s.program Regions rs x → HaveRegionTrees says Naming HasOwnLabel (seen s) rs ts → AreRegions values ts
+        → AreTree s.program Regions rs x → HaveRegionTrees says Named HasOwnLabel (seen s) rs ts → AreRegions values ts
         → AreShallow d ts → AreBareTrees ts → AreLabelled ts → IsWritable s.types.keys d x
     regions_so d [] x ts no_regions h closed shallow bare labelled = tt
     regions_so d (r ∷ rs) x no_entity (first_region _ _ v bs rest there inner after) h closed shallow bare labelled = absurd h
     regions_so d (r ∷ rs) x (an_entity (entity a_region us) ts) (first_region _ _ v bs rest there inner after) h closed shallow bare labelled =
         let here = h.0 in
         let is : v.blocks ≡ here.0 = same_region r v here.0 there here.1 in
-        let trees = subst (λ ks. HaveBlockTrees says Naming HasOwnLabel (seen s) ks us) (sym is) here.2 in (
+        let trees = subst (λ ks. HaveBlockTrees says Named HasOwnLabel (seen s) ks us) (sym is) here.2 in (
           deeper d (λ e. AreShallow e us) (λ e. IsWritable s.types.keys e bs)
               (λ e low. blocks_so e v.blocks bs us inner trees closed.0 low bare.0.1 labelled.0.1) shallow.0.1,
           subst AllDistinct (sym (labels_so v.blocks bs us inner trees)) labelled.0.0,
           regions_so d rs rest ts after h.1 closed.1 shallow.1 bare.1 labelled.1,
         )
-    regions_so d (r ∷ rs) x (an_entity (entity (operation kind results used pieces) us) ts) (first_region _ _ v bs rest there inner after) h closed shallow bare labelled = absurd h.0
-    regions_so d (r ∷ rs) x (an_entity (entity (block label arguments) us) ts) (first_region _ _ v bs rest there inner after) h closed shallow bare labelled = absurd h.0
+    regions_so d (r ∷ rs) x (an_entity (entity (operation kind results used successors pieces) us) ts) (first_region _ _ v bs rest there inner after) h closed shallow bare labelled = absurd h.0
+    regions_so d (r ∷ rs) x (an_entity (entity (block named label arguments) us) ts) (first_region _ _ v bs rest there inner after) h closed shallow bare labelled = absurd h.0
 
     blocks_so : (d : ℕ) (bs : List (Ptr BasicBlock)) (x : KitPart Blocks) (ts : Entities N)
-        → AreTree s.program Blocks bs x → HaveBlockTrees says Naming HasOwnLabel (seen s) bs ts → AreBlocks values ts
+        → AreTree s.program Blocks bs x → HaveBlockTrees says Named HasOwnLabel (seen s) bs ts → AreBlocks values ts
         → AreShallow d ts → AreBareTrees ts → AreLabelled ts → IsWritable s.types.keys d x
     blocks_so d [] x ts no_blocks h closed shallow bare labelled = tt
     blocks_so d (b ∷ bs) x no_entity (first_block _ _ v os rest there inner after) h closed shallow bare labelled = absurd h
-    blocks_so d (b ∷ bs) x (an_entity (entity (block label arguments) us) ts) (first_block _ _ v os rest there inner after) h closed shallow bare labelled =
+    blocks_so d (b ∷ bs) x (an_entity (entity (block named label arguments) us) ts) (first_block _ _ v os rest there inner after) h closed shallow bare labelled =
         let here = h.0 in
         let is : seen_block v ≡ here.0 = same_block b v here.0 there here.1 in
         let own : IsLabel v.payload.label label = subst (λ (o : SeenBlock). IsLabel o.label label) (sym is) here.2.labelled in
         let bare_block : length v.payload.attributes ≡ 0 = subst (λ (o : SeenBlock). o.attributes ≡ 0) (sym is) here.2.no_attributes in
-        let defines = subst (λ (o : SeenBlock). Pairs (HasDefinition says Naming s.types.keys) o.arguments arguments) (sym is) here.3 in
-        let trees = subst (λ (o : SeenBlock). HaveTrees says Naming HasOwnLabel (seen s) o.operations us) (sym is) here.4 in (
+        let defines = subst (λ (o : SeenBlock). Pairs (HasDefinition says Named s.types.keys) o.arguments arguments) (sym is) here.4 in
+        let trees = subst (λ (o : SeenBlock). HaveTrees says Named HasOwnLabel (seen s) o.operations us) (sym is) here.5 in (
           record {
             labelled = has_label v.payload.label label own;
             no_attributes = is_none v.payload.attributes bare_block;
@@ -198,23 +206,23 @@ module _ {N : Type 0} (s : WritableContext) (Naming : Value → N → Type 0) wh
           operations_so d v.operations os us inner trees closed.0 shallow.0.1 bare.0.1 labelled.0.1,
           blocks_so d bs rest ts after h.1 closed.1 shallow.1 bare.1 labelled.1,
         )
-    blocks_so d (b ∷ bs) x (an_entity (entity (operation kind results used pieces) us) ts) (first_block _ _ v os rest there inner after) h closed shallow bare labelled = absurd h.0
+    blocks_so d (b ∷ bs) x (an_entity (entity (operation kind results used successors pieces) us) ts) (first_block _ _ v os rest there inner after) h closed shallow bare labelled = absurd h.0
     blocks_so d (b ∷ bs) x (an_entity (entity a_region us) ts) (first_block _ _ v os rest there inner after) h closed shallow bare labelled = absurd h.0
 
   -- so it is of an operation with a closed tree
-  pub root_so : (root : Ptr Operation) (e : Entity N) (t : WritableTree) → StandsForTexts says Naming (seen s) root e
+  pub root_so : (root : Ptr Operation) (e : Entity N) (t : WritableTree) → StandsForTexts says Named (seen s) root e
       → IsClosedTree kit_language e → StandsFor s.program root t → IsWritableRoot s.types.keys t
-  root_so root (entity (operation kind results used pieces) us) t h closed stands =
+  root_so root (entity (operation kind results used successors pieces) us) t h closed stands =
       let is : seen_operation stands.view ≡ h.0 = same_operation root stands.view h.0 stands.there h.1 in
-      let head = subst (λ o. HasHead says Naming s.types.keys o kind results used pieces) (sym is) h.2 in
-      let trees = subst (λ (o : SeenOperation KitOp KitAttr). HaveRegionTrees says Naming HasOwnLabel (seen s) o.regions us) (sym is) h.3 in
+      let head = subst (λ o. HasHead says Named s.types.keys o kind results used successors pieces) (sym is) h.2 in
+      let trees = subst (λ (o : SeenOperation KitOp KitAttr). HaveRegionTrees says Named HasOwnLabel (seen s) o.regions us) (sym is) h.3 in
       let count = as_many stands.view.regions t.regions us stands.regions trees in
       record {
         head = subst (IsWritableHead s.types.keys 64 (count_of t.regions)) (sym stands.head)
-            (head_so 64 (count_of t.regions) root stands.view kind results used pieces head closed.operation.0
-            (closed.operation.1 ∙ count) closed.shallow.0 closed.bare.0);
-        regions = regions_so 64 stands.view.regions t.regions us stands.regions trees closed.operation.2 closed.shallow.1
+            (head_so 64 (count_of t.regions) root stands.view kind results used successors pieces head closed.operation.0
+            (closed.operation.1 ∙ count) closed.operation.2 closed.shallow.0 closed.bare.0);
+        regions = regions_so 64 stands.view.regions t.regions us stands.regions trees closed.operation.3 closed.shallow.1
             closed.bare.1 closed.labelled.1;
       }
   root_so root (entity a_region us) t h closed stands = absurd h
-  root_so root (entity (block label arguments) us) t h closed stands = absurd h
+  root_so root (entity (block named label arguments) us) t h closed stands = absurd h

@@ -1,5 +1,6 @@
 -- Which trees of operations of `kit` can be written as texts. What is asked is said of each operation, block and region by
--- itself, in the places where it stands; that operands are in scope the rules of the dialect say.
+-- itself, in the places where it stands; that operands are in scope, and that edges stay in their region, the rules of the
+-- dialect say.
 use Rattle.std.specs.Prelude.{◌≡◌, ℕ, suc, ◌++◌, List, [], ◌∷◌, map, Option, Some, None, length, slice_get}
 use Rattle.ir_base.specs.declared.types.TypeHandle.{TypeHandle}
 use Rattle.ir_names.specs.declared.identifier.Identifier.{Identifier}
@@ -7,7 +8,7 @@ use Rattle.ir_names.specs.Identifier.{text_of}
 use Rattle.ir_names.specs.Tree.{Trees}
 use Rattle.ir_print.specs.Layout.{Deeper, IsFlat, AreFlat}
 use Rattle.ir_print.specs.Pieces.{ValueTree, Pieces}
-use Rattle.ir_print.specs.Shown.{Said, Pairs, ShowsAll, ShowsType}
+use Rattle.ir_print.specs.Shown.{Said, Pairs, ShowsAll, ShowsType, successors_said}
 use Rattle.ir_forest.specs.Bare.{IsBare, AreBare}
 use Rattle.ir_forest.specs.Closed.{AllDistinct, regions_said}
 use Rattle.ir_trees.specs.Names.{Names}
@@ -46,7 +47,7 @@ pub record AreWritten (types : List KitType) (d : ℕ) (handles : List TypeHandl
 
 module _ {N : Names} (types : List KitType) where
   -- the operation says pieces of a kind that has a text, its results have the types that are read of these pieces, and it goes on
-  -- to no block; it has so many regions, and at most d types and attributes stand in one another
+  -- to as many blocks as they say; it has so many regions, and at most d types and attributes stand in one another
   pub record IsWritableHead (d : ℕ) (regions : ℕ) (h : Head N kit_contents) : Type 0 where
     pub kind : ℕ
     pub said : Trees (Said KitAttr)
@@ -60,7 +61,7 @@ module _ {N : Names} (types : List KitType) where
     pub holds : regions_said pieces ≡ regions
     pub flat : AreFlat d pieces
     pub bare : AreBare pieces
-    pub no_successors : h.successors ≡ []
+    pub counted : successors_said pieces ≡ length h.successors
 
   -- the block has a label and no attributes, and the types of its arguments have texts
   pub record IsWritableLabel (d : ℕ) (l : Label N kit_contents) : Type 0 where

@@ -80,5 +80,5 @@ module _ (types : List KitType) (a : IntegerAttr) (is : IsNumber types a) where
         holds = refl;
         flat = ((tt, (tt, tt)), tt);
         bare = ((refl, (refl, tt)), tt);
-        no_successors = refl;
+        counted = refl;
       }

@@ -1,5 +1,5 @@
 -- What is left without what is dead can be written.
-use Rattle.std.proofs.Common.{◌≡◌, ℕ, zero, suc, Bool, true, false, List, ◌++◌, length, refl, sym, ap, subst}
+use Rattle.std.proofs.Common.{◌≡◌, ℕ, zero, suc, Bool, true, false, List, ◌++◌, refl, sym, ap, subst}
 use Rattle.std.specs.Prelude.{if◌then◌else◌, slice_get}
 use Rattle.ir_forest.specs.Closed.{AllDistinct}
 use Rattle.ir_trees.specs.Names.{Names}
@@ -7,12 +7,11 @@ use Rattle.ir_trees.specs.Trees.{Head, Label, Sort, Blocks, Regions, Tree, end, 
 use Rattle.kit.specs.Meaning.{changed_at, without_names, kit}
 use Rattle.kit_ops.specs.Keys.{given_names}
 use Rattle.kit_ops.specs.declared.types.KitType.{KitType}
-use Rattle.kit_views.proofs.Dropped.{drop_none}
 use Rattle.kit_views.specs.Reading.{kit_contents}
 use Rattle.kit_written_trees.specs.PassLaws.{DceStaysWritable}
 use Rattle.kit_written_trees.proofs.EdgeLemmas.{LosesAtBranches, AllLoseAtBranches, loses_at_branches}
 use Rattle.kit_written_trees.proofs.EdgeLemmas.{all_lose_at_branches}
-use Rattle.kit_written_trees.proofs.HeadLemmas.{dropped_same, head_no_branch, head_like}
+use Rattle.kit_written_trees.proofs.BranchLemmas.{head_dropped}
 use Rattle.kit_written_trees.proofs.ListLemmas.{types_left, written_left}
 use Rattle.kit_writable_trees.specs.Writable.{types_in, count_of, label_text, labels_in, AreWritten, IsWritableHead, IsWritableLabel, IsWritable, IsWritableRoot}
 use Rattle.opt_trees.specs.Dce.{Whole, Gone, gone_at, thin_head, thin_label, thin}
@@ -28,20 +27,11 @@ module _ {N : Names} (types : List KitType) (g : Gone N) where
   labels_left end = refl
   labels_left (block l os rest) = ap (λ ls. label_text l.content.label ++ ls) (labels_left rest)
 
-  -- what can be written is no branch, and loses no operand
+  -- what loses operands at branches alone can be written
   head_left : (d n m : ℕ) (h : Head N kit_contents) → LosesAtBranches g h → m ≡ n → IsWritableHead types d n h →
       IsWritableHead types d m (thin_head kit g h)
-  head_left d n m h lose count w = head_like types d n m h (thin_head kit g h)
-      (record {
-        kind = refl;
-        attributes = dropped_same h.content.kind (g.operand h.name) h.content.notes.attributes (length h.operands)
-            (types_in h.results) (w.kind, w.said) w.says_it;
-        operands = ap length
-            (drop_none (g.operand h.name) h.operands (lose.others (head_no_branch types d n h w)));
-        results = refl;
-        successors = refl;
-      })
-      count w
+  head_left d n m h lose count w =
+      subst (λ k. IsWritableHead types d k (thin_head kit g h)) (sym count) (head_dropped types g d n h lose w)
 
   label_left : (d : ℕ) (l : Label N kit_contents) → IsWritableLabel types d l →
       IsWritableLabel types d (thin_label kit g l)

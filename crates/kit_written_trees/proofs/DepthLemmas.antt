@@ -3,7 +3,7 @@ use Rattle.std.proofs.Common.{◌≡◌, ℕ, zero, suc, List, [], ◌∷◌, re
 use Rattle.ir_base.specs.declared.types.TypeHandle.{TypeHandle}
 use Rattle.ir_names.specs.Tree.{node, no_tree, a_tree}
 use Rattle.ir_print.specs.Layout.{Deeper, IsFlat, AreFlat}
-use Rattle.ir_print.specs.Pieces.{type_of_kind, attribute_of_kind, list, item, operands, region, name, number, width, ValueTree, Pieces}
+use Rattle.ir_print.specs.Pieces.{type_of_kind, attribute_of_kind, list, item, operands, successor, region, name, number, width, ValueTree, Pieces}
 use Rattle.ir_print.specs.Shown.{Pairs, ShowsType}
 use Rattle.kit_ops.specs.declared.types.KitType.{KitType}
 use Rattle.kit_ops.specs.declared.kinds.KitOp.{KitOp}
@@ -48,6 +48,7 @@ module _ (types : List KitType) where
   type_above d ty (node list ts) h f = absurd (cc h.1)
   type_above d ty (node item ts) h f = absurd (cc h.1)
   type_above d ty (node (operands n) ts) h f = absurd (cc h)
+  type_above d ty (node (successor n) ts) h f = absurd (cc h)
   type_above d ty (node region ts) h f = absurd (cc h)
   type_above d ty (node (name cs) ts) h f = absurd (cc h)
   type_above d ty (node (number negative magnitude) ts) h f = absurd (cc h)

@@ -7,6 +7,8 @@ pub mod Texts
 pub mod HeadLemmas
 pub mod ListLemmas
 pub mod EdgeLemmas
+pub mod Edges
+pub mod BranchLemmas
 pub mod DceLemmas
 pub mod RenameLemmas
 pub mod JoinedLemmas

@@ -1,11 +1,13 @@
 -- What is written of a tree in which operands are in scope defines what it mentions.
 use Rattle.std.proofs.Common.{if◌then◌else◌, ◌≡◌, ◌∙◌, ◌⊎◌, inl, inr, ⊎_elim, ℕ, zero, suc, Bool, true, false, List, [], ◌∷◌, ◌++◌, map, refl, ap, sym, subst}
 use Rattle.ir_base.specs.declared.types.TypeHandle.{TypeHandle}
-use Rattle.ir_forest.specs.Closed.{AreIn, all_mentioned, all_defined, all_definitions_of, head_defines, head_mentions, in_scope, is_isolated_head, IsScope, AreScoped}
+use Rattle.ir_forest.specs.Closed.{AreIn, all_mentioned, all_defined, all_definitions_of, in_scope, is_isolated_head, IsScope, AreScoped}
 use Rattle.ir_names.specs.Identifier.{text_of}
 use Rattle.ir_forest.specs.Closed as text
 use Rattle.ir_print.specs.Pieces.{ValueTree, Pieces, operation, a_region, block, Entities}
 use Rattle.ir_print.specs.Shown.{Pairs}
+use Rattle.ir_program.specs.declared.handles.BasicBlock.{BasicBlock}
+use Rattle.ir_program.specs.declared.handles.Ptr.{Ptr}
 use Rattle.ir_program.specs.declared.handles.Value.{Value}
 use Rattle.ir_trees.specs.Renames.{names_of}
 use Rattle.ir_trees.specs.Stands.{by_handle}
@@ -23,17 +25,17 @@ use Rattle.kit_written_trees.proofs.Written.{Part, named_so, head_text, written}
 pub in_by_has : {N : Type 0} (xs ys : List N) → ((n : N) → Has n xs → Has n ys) → AreIn xs ys
 in_by_has xs ys h i x e = has_get x ys (h x (get_has x xs i e))
 
-has_image : {N : Type 0} (ν : Value → N) (v : Value) (xs : List Value) → Has v xs → Has (ν v) (map ν xs)
+pub has_image : {V N : Type 0} (ν : V → N) (v : V) (xs : List V) → Has v xs → Has (ν v) (map ν xs)
 has_image ν v [] h = absurd h
 has_image ν v (x ∷ xs) (inl e) = inl (ap ν e)
 has_image ν v (x ∷ xs) (inr h) = inr (has_image ν v xs h)
 
-of_image : {N : Type 0} (ν : Value → N) (n : N) (xs : List Value) → Has n (map ν xs) → (v : Value) × Has v xs × (n ≡ ν v)
+pub of_image : {V N : Type 0} (ν : V → N) (n : N) (xs : List V) → Has n (map ν xs) → (v : V) × Has v xs × (n ≡ ν v)
 of_image ν n [] h = absurd h
 of_image ν n (x ∷ xs) (inl e) = (x, inl refl, e)
 of_image ν n (x ∷ xs) (inr h) = let later = of_image ν n xs h in (later.0, inr later.1, later.2)
 
-map_joined : {N : Type 0} (ν : Value → N) (xs ys : List Value) → map ν (xs ++ ys) ≡ map ν xs ++ map ν ys
+pub map_joined : {V N : Type 0} (ν : V → N) (xs ys : List V) → map ν (xs ++ ys) ≡ map ν xs ++ map ν ys
 map_joined ν [] ys = refl
 map_joined ν (x ∷ xs) ys = ap (λ zs. ν x ∷ zs) (map_joined ν xs ys)
 
@@ -41,10 +43,11 @@ regroup : {X : Type 0} (xs ys zs : List X) → (xs ++ ys) ++ zs ≡ xs ++ (ys ++
 regroup [] ys zs = refl
 regroup (x ∷ xs) ys zs = ap (λ ws. x ∷ ws) (regroup xs ys zs)
 
-module _ {N : Type 0} (isolated : ℕ → Bool) (types : List KitType) (ν : Value → N) where
+module _ {N : Type 0} (isolated : ℕ → Bool) (types : List KitType) (ν : Value → N)
+    (β : Ptr BasicBlock → N) where
   -- the names of definitions
   pub names_same : (R : TypeHandle → ValueTree → Type 0) (ds : List (Defined Value TypeHandle)) (ys : List ValueTree)
-      → Pairs R (types_in ds) ys → text.names_of (named_so types ν ds ys) ≡ map ν (names_of ds)
+      → Pairs R (types_in ds) ys → text.names_of (named_so types ν β ds ys) ≡ map ν (names_of ds)
   names_same R [] [] h = refl
   names_same R [] (y ∷ ys) h = absurd h
   names_same R (d ∷ ds) [] h = absurd h
@@ -52,7 +55,7 @@ module _ {N : Type 0} (isolated : ℕ → Bool) (types : List KitType) (ν : Val
 
   -- all definitions, in the order of the text
   pub definitions_same : {s : Sort} (d : ℕ) (x : Part s) (w : IsWritable {N = by_handle} types d x)
-      → all_definitions_of (written types ν d x w) ≡ map ν (defined_in x)
+      → all_definitions_of (written types ν β d x w) ≡ map ν (defined_in x)
   definitions_same d end w = refl
   definitions_same d (tree.operation h rs rest) w =
       (λ i. (names_same _ h.results w.0.shapes w.0.typed i
@@ -74,32 +77,32 @@ module _ {N : Type 0} (isolated : ℕ → Bool) (types : List KitType) (ν : Val
   -- ---- what is defined in the scope of a part
 
   abbrev texts : {s : Sort} (d : ℕ) (x : Part s) → IsWritable {N = by_handle} types d x → Entities N
-  texts d x w = written types ν d x w
+  texts d x w = written types ν β d x w
 
   result_here : (d : ℕ) (os : Part Operations) (w : IsWritable {N = by_handle} types d os) (v : Value) → IsResultHere os v
       → Has (ν v) (all_defined isolated (texts d os w))
   result_here d end w v h = absurd h
   result_here d (tree.operation h rs rest) w v (inl here) =
-      let own = text.names_of (named_so types ν h.results w.0.shapes) in
-      let inner = in_scope isolated (head_text types ν d (count_of rs) h w.0) (all_defined isolated (texts d rs w.1)) in
+      let own = text.names_of (named_so types ν β h.results w.0.shapes) in
+      let inner = in_scope isolated (head_text types ν β d (count_of rs) h w.0) (all_defined isolated (texts d rs w.1)) in
       has_left (ν v) (own ++ inner) (all_defined isolated (texts d rest w.2)) (has_left (ν v) own inner
       (subst (Has (ν v)) (sym (names_same _ h.results w.0.shapes w.0.typed)) (has_image ν v (names_of h.results) here)))
   result_here d (tree.operation h rs rest) w v (inr there) =
-      let own = text.names_of (named_so types ν h.results w.0.shapes) in
-      let inner = in_scope isolated (head_text types ν d (count_of rs) h w.0) (all_defined isolated (texts d rs w.1)) in
+      let own = text.names_of (named_so types ν β h.results w.0.shapes) in
+      let inner = in_scope isolated (head_text types ν β d (count_of rs) h w.0) (all_defined isolated (texts d rs w.1)) in
       has_right (ν v) (own ++ inner) (all_defined isolated (texts d rest w.2)) (result_here d rest w.2 v there)
 
   of_block : (d : ℕ) (l : KitLabel) (os : Part Operations) (rest : Part Blocks)
       (w : IsWritable {N = by_handle} types d (tree.block l os rest)) (v : Value) → IsOfBlock l os v
       → Has (ν v) (all_defined isolated (texts d (tree.block l os rest) w))
   of_block d l os rest w v (inl here) =
-      let own = text.names_of (named_so types ν l.arguments w.0.arguments.shapes) in
+      let own = text.names_of (named_so types ν β l.arguments w.0.arguments.shapes) in
       let inner = all_defined isolated (texts d os w.1) in
       has_left (ν v) (own ++ inner) (all_defined isolated (texts d rest w.2)) (has_left (ν v) own inner
       (subst (Has (ν v)) (sym (names_same _ l.arguments w.0.arguments.shapes w.0.arguments.shown))
       (has_image ν v (names_of l.arguments) here)))
   of_block d l os rest w v (inr there) =
-      let own = text.names_of (named_so types ν l.arguments w.0.arguments.shapes) in
+      let own = text.names_of (named_so types ν β l.arguments w.0.arguments.shapes) in
       let inner = all_defined isolated (texts d os w.1) in
       has_left (ν v) (own ++ inner) (all_defined isolated (texts d rest w.2))
       (has_right (ν v) own inner (result_here d os w.1 v there))
@@ -127,9 +130,9 @@ module _ {N : Type 0} (isolated : ℕ → Bool) (types : List KitType) (ν : Val
     operations_mention d end w P scoped n has = absurd has
     operations_mention d (tree.operation h rs rest) w P scoped n has =
         let used = map ν h.operands in
-        let head = head_text types ν d (count_of rs) h w.0 in
+        let head = head_text types ν β d (count_of rs) h w.0 in
         let mentioned = in_scope isolated head (all_mentioned isolated (texts d rs w.1)) in
-        let own = text.names_of (named_so types ν h.results w.0.shapes) in
+        let own = text.names_of (named_so types ν β h.results w.0.shapes) in
         let inner = in_scope isolated head (all_defined isolated (texts d rs w.1)) in
         let later = all_defined isolated (texts d rest w.2) in
         ⊎_elim
@@ -163,7 +166,7 @@ module _ {N : Type 0} (isolated : ℕ → Bool) (types : List KitType) (ν : Val
         → IsNamedOr P n (all_defined isolated (texts d bs w))
     blocks_mention d end w P scoped n has = absurd has
     blocks_mention d (tree.block l os rest) w P scoped n has =
-        let own = text.names_of (named_so types ν l.arguments w.0.arguments.shapes) in
+        let own = text.names_of (named_so types ν β l.arguments w.0.arguments.shapes) in
         let inner = all_defined isolated (texts d os w.1) in
         let later = all_defined isolated (texts d rest w.2) in
         ⊎_elim
@@ -191,15 +194,16 @@ module _ {N : Type 0} (isolated : ℕ → Bool) (types : List KitType) (ν : Val
 
   -- ---- scopes
 
-  no_scope : (b : Bool) (kind : ℕ) (results : List (N × ValueTree)) (used : List N) (pieces : Pieces) (ts : Entities N)
-      → IsScope isolated b (operation kind results used pieces) ts
-  no_scope true kind results used pieces ts = tt
-  no_scope false kind results used pieces ts = tt
+  no_scope : (b : Bool) (kind : ℕ) (results : List (N × ValueTree)) (used successors : List N) (pieces : Pieces)
+      (ts : Entities N)
+      → IsScope isolated b (operation kind results used successors pieces) ts
+  no_scope true kind results used successors pieces ts = tt
+  no_scope false kind results used successors pieces ts = tt
 
-  no_block_scope : (b : Bool) (label : List ℕ) (arguments : List (N × ValueTree)) (ts : Entities N)
-      → IsScope isolated b (block label arguments) ts
-  no_block_scope true label arguments ts = tt
-  no_block_scope false label arguments ts = tt
+  no_block_scope : (b : Bool) (named : N) (label : List ℕ) (arguments : List (N × ValueTree)) (ts : Entities N)
+      → IsScope isolated b (block named label arguments) ts
+  no_block_scope true named label arguments ts = tt
+  no_block_scope false named label arguments ts = tt
 
   region_scope : (b : Bool) (d : ℕ) (bs : Part Blocks) (w : IsWritable {N = by_handle} types d bs)
       → Scoped bs (IsOfEntry bs) → IsScope isolated b a_region (texts d bs w)
@@ -213,7 +217,8 @@ module _ {N : Type 0} (isolated : ℕ → Bool) (types : List KitType) (ν : Val
     operations_scoped b d end w P scoped = tt
     operations_scoped b d (tree.operation h rs rest) w P scoped = (
       (
-        no_scope b w.0.kind (named_so types ν h.results w.0.shapes) (map ν h.operands) w.0.pieces (texts d rs w.1),
+        no_scope b w.0.kind (named_so types ν β h.results w.0.shapes) (map ν h.operands) (map β h.successors) w.0.pieces
+            (texts d rs w.1),
         regions_scoped_by (isolated w.0.kind) d rs w.1 P scoped.1,
       ),
       operations_scoped b d rest w.2 P scoped.2,
@@ -233,7 +238,8 @@ module _ {N : Type 0} (isolated : ℕ → Bool) (types : List KitType) (ν : Val
     blocks_scoped b d end w P scoped = tt
     blocks_scoped b d (tree.block l os rest) w P scoped = (
       (
-        no_block_scope b (text_of w.0.labelled.0) (named_so types ν l.arguments w.0.arguments.shapes) (texts d os w.1),
+        no_block_scope b (β l.name) (text_of w.0.labelled.0) (named_so types ν β l.arguments w.0.arguments.shapes)
+            (texts d os w.1),
         operations_scoped false d os w.1 (λ x. IsOfBlock l os x ⊎ P x) scoped.0,
       ),
       blocks_scoped b d rest w.2 P scoped.1,

@@ -1,5 +1,5 @@
--- What simplifying control flow leaves can be written: nothing is decided where no operation is a branch, blocks are
--- cut, and chains of blocks are joined.
+-- What simplifying control flow leaves can be written: branches are decided, blocks are cut, and chains of blocks are
+-- joined.
 use Rattle.std.proofs.Common.{◌≡◌, ⊎_elim, ℕ, zero, suc, Bool, true, false, List, ◌++◌, Option, refl, sym, ap, subst}
 use Rattle.std.specs.Prelude.{if◌then◌else◌}
 use Rattle.ir_forest.specs.Closed.{AllDistinct}
@@ -13,16 +13,15 @@ use Rattle.kit_pass_rules.specs.Names.{maps_of}
 use Rattle.kit_pass_rules.specs.Worlds.{PassedTree}
 use Rattle.kit_views.specs.Reading.{kit_contents}
 use Rattle.kit_written_trees.specs.PassLaws.{SimplifyStaysWritable}
-use Rattle.kit_written_trees.proofs.EdgeLemmas.{other_decided}
-use Rattle.kit_written_trees.proofs.HeadLemmas.{head_no_branch, head_like}
+use Rattle.kit_written_trees.proofs.BranchLemmas.{head_decided}
+use Rattle.kit_written_trees.proofs.HeadLemmas.{head_like}
 use Rattle.kit_written_trees.proofs.JoinedLemmas.{count_joined, chains_writable}
 use Rattle.kit_written_trees.proofs.ListLemmas.{distinct_right, distinct_fewer}
 use Rattle.kit_written_trees.proofs.RenameLemmas.{root_renamed}
 use Rattle.kit_writable_trees.specs.Writable.{count_of, label_text, labels_in, IsWritableHead, IsWritable}
 use Rattle.kit_writable_trees.specs.Writable.{IsWritableRoot}
-use Rattle.opt_trees.specs.Dce.{TreeSurroundings}
 use Rattle.opt_trees.specs.Occurrences.{Has}
-use Rattle.opt_trees.specs.Simplify.{StartingRegions, all_of, decide, decided, keep, use_head, use_instead, IsLocal}
+use Rattle.opt_trees.specs.Simplify.{StartingRegions, all_of, decide, decide_head, decided, keep, use_head, use_instead, IsLocal}
 use Rattle.opt_trees.specs.Simplify.{IsJoined, IsSimplify}
 use Rattle.opt_trees.proofs.Lists.{length-map}
 use Rattle.opt_trees.proofs.NoneDead.{has-append, has-left, has-right}
@@ -31,15 +30,34 @@ use Rattle.opt_trees.proofs.Orderly.{phases_local}
 -- ---- branches
 
 module _ {N : Names} (types : List KitType) (alone : N.value → Option IntegerAttr) where
-  -- nothing is decided
-  pub tree_decided : {s : Sort} (d : ℕ) (x : Tree N kit_contents s) → IsWritable types d x → decide kit alone x ≡ x
-  tree_decided d end w = refl
-  tree_decided d (operation h rs rest) w = λ i. operation
-      (other_decided alone h rs (head_no_branch types d (count_of rs) h w.0) i)
-      (tree_decided d rs w.1 i) (tree_decided d rest w.2 i)
-  tree_decided d (block l os rest) w = λ i. block l (tree_decided d os w.1 i) (tree_decided d rest w.2 i)
-  tree_decided zero (region bs rest) w = absurd w.0
-  tree_decided (suc d) (region bs rest) w = λ i. region (tree_decided d bs w.0 i) (tree_decided (suc d) rest w.2 i)
+  -- regions and labels stay
+  count_decided : (rs : Tree N kit_contents Regions) → count_of (decide kit alone rs) ≡ count_of rs
+  count_decided end = refl
+  count_decided (region bs rest) = ap suc (count_decided rest)
+
+  labels_decided : (bs : Tree N kit_contents Blocks) → labels_in (decide kit alone bs) ≡ labels_in bs
+  labels_decided end = refl
+  labels_decided (block l os rest) = ap (λ ls. label_text l.content.label ++ ls) (labels_decided rest)
+
+  part_decided : {s : Sort} (d : ℕ) (x : Tree N kit_contents s) → IsWritable types d x →
+      IsWritable types d (decide kit alone x)
+  part_decided d end w = tt
+  part_decided d (operation h rs rest) w =
+      let head : IsWritableHead types d (count_of (decide kit alone rs)) (decide_head kit alone h rs) =
+      subst (λ n. IsWritableHead types d n (decide_head kit alone h rs)) (sym (count_decided rs))
+      (head_decided types alone d (count_of rs) h rs w.0) in
+      (head, part_decided d rs w.1, part_decided d rest w.2)
+  part_decided d (block l os rest) w = (w.0, part_decided d os w.1, part_decided d rest w.2)
+  part_decided zero (region bs rest) w = absurd w.0
+  part_decided (suc d) (region bs rest) w =
+      (part_decided d bs w.0, subst AllDistinct (sym (labels_decided bs)) w.1, part_decided (suc d) rest w.2)
+
+  pub root_decided : (t : Root N kit_contents) → IsWritableRoot types t →
+      IsWritableRoot types (record { head = t.head; regions = decide kit alone t.regions })
+  root_decided t w = record {
+    head = subst (λ n. IsWritableHead types 64 n t.head) (sym (count_decided t.regions)) w.head;
+    regions = part_decided 64 t.regions w.regions;
+  }
 
 -- ---- blocks
 
@@ -145,14 +163,7 @@ module _ {N : Names} (types : List KitType) (f : N.value → N.value) where
 
 -- ---- the pass
 
-decided_writable : (types : List KitType) (w : TreeSurroundings by_handle IntegerAttr) (t : PassedTree) → IsWritableRoot types t →
-    IsWritableRoot types (decided kit w t)
-decided_writable types w t writable =
-    let same : decide kit w.alone t.regions ≡ t.regions = tree_decided types w.alone 64 t.regions writable.regions in
-    let whole : t ≡ decided kit w t = λ i. record { head = t.head; regions = sym same i } in
-    subst (IsWritableRoot types) whole writable
-
--- chains are joined; that some operations may be branches is no hindrance
+-- chains are joined
 joined_writable : (types : List KitType) (p : StartingRegions by_handle) (t after : PassedTree) → IsLocal t →
     IsWritableRoot types t → IsJoined kit p t after → IsWritableRoot types after
 joined_writable types p t after local writable joined =
@@ -169,7 +180,7 @@ simplify_law = λ types w t after writable local named.
     let made : PassedTree = named.0 in
     let pass : IsSimplify kit w t made = named.1 in
     let at_cut : IsWritableRoot types pass.cut = subst (IsWritableRoot types) (sym pass.is_cut.is)
-    (root_cut types pass.is_cut.gone (decided kit w t) (decided_writable types w t writable)) in
+    (root_cut types pass.is_cut.gone (decided kit w t) (root_decided types w.alone t writable)) in
     let local_cut : IsLocal pass.cut = phases_local kit (all_of t) w t pass.cut pass.is_cut local in
     subst (IsWritableRoot types) (sym named.3)
     (root_renamed types (maps_of named.2) made

@@ -8,6 +8,8 @@ use Rattle.ir_forest.specs.Closed.{AllDistinct, AreLabelled, labels_of, number_i
 use Rattle.ir_print.specs.Layout.{IsFlat, AreShallow, AreFlatArguments}
 use Rattle.ir_print.specs.Pieces.{ValueTree, operation, a_region, block, EntityHead, entity, Entities, no_entity, an_entity}
 use Rattle.ir_print.specs.Shown.{Pairs}
+use Rattle.ir_program.specs.declared.handles.BasicBlock.{BasicBlock}
+use Rattle.ir_program.specs.declared.handles.Ptr.{Ptr}
 use Rattle.ir_program.specs.declared.handles.Value.{Value}
 use Rattle.ir_trees.specs.Stands.{by_handle, ProgramHead, ProgramLabel}
 use Rattle.ir_trees.specs.Trees.{Defined, Sort, Operations, Blocks, Regions, end}
@@ -16,6 +18,7 @@ use Rattle.kit.specs.Meaning.{KitOperation, KitBlock}
 use Rattle.kit_checks.specs.Sites.{Listed}
 use Rattle.kit_ops.specs.declared.types.KitType.{KitType}
 use Rattle.kit.specs.Says.{values}
+use Rattle.opt_trees.proofs.Lists.{length-map}
 use Rattle.kit_writable_trees.specs.Writable.{types_in, count_of, label_text, labels_in, IsWritableHead, IsWritableLabel, IsWritable}
 
 -- parts of trees of `kit`
@@ -26,7 +29,7 @@ Part s = Listed KitOperation KitBlock s
 pub none_twice : {X : Type 0} → AllDistinct {N = X} []
 none_twice i j x e f = absurd (none-some x e)
 
-module _ {N : Type 0} (types : List KitType) (ν : Value → N) where
+module _ {N : Type 0} (types : List KitType) (ν : Value → N) (β : Ptr BasicBlock → N) where
   -- definitions by their names, with the types that are written beside them
   abbrev pub named_so : List (Defined Value TypeHandle) → List ValueTree → List (N × ValueTree)
   named_so [] ys = []
@@ -35,10 +38,10 @@ module _ {N : Type 0} (types : List KitType) (ν : Value → N) where
 
   abbrev pub head_text : (d regions : ℕ) (h : ProgramHead KitOperation KitBlock)
       → IsWritableHead {N = by_handle} types d regions h → EntityHead N
-  head_text d regions h w = operation w.kind (named_so h.results w.shapes) (map ν h.operands) w.pieces
+  head_text d regions h w = operation w.kind (named_so h.results w.shapes) (map ν h.operands) (map β h.successors) w.pieces
 
   abbrev pub label_so : (d : ℕ) (l : ProgramLabel KitOperation KitBlock) → IsWritableLabel {N = by_handle} types d l → EntityHead N
-  label_so d l w = block (text_of w.labelled.0) (named_so l.arguments w.arguments.shapes)
+  label_so d l w = block (β l.name) (text_of w.labelled.0) (named_so l.arguments w.arguments.shapes)
 
   abbrev pub written : {s : Sort} (d : ℕ) (x : Part s) → IsWritable {N = by_handle} types d x → Entities N
   written d end w = no_entity
@@ -85,6 +88,7 @@ module _ {N : Type 0} (types : List KitType) (ν : Value → N) where
       (
         shapes_so _ h.results w.0.shapes w.0.typed ∙ w.0.read,
         w.0.holds ∙ sym (as_many d rs w.1),
+        w.0.counted ∙ sym (length-map β h.successors),
         are_regions d rs w.1,
       ),
       are_operations d rest w.2,

@@ -19,3 +19,11 @@ returns-in-Comparison c = rw c.in-Comparison.is (simp step_rules refl)
 pub returns-in-Call : goal.returns-in-Call
 unfolding trim_start trim_end chars encode
 returns-in-Call c = rw c.in-Call.is (simp step_rules refl)
+
+pub returns-in-Br : goal.returns-in-Br
+unfolding trim_start trim_end chars encode
+returns-in-Br c = rw c.in-Br.is (simp step_rules refl)
+
+pub returns-in-CondBr : goal.returns-in-CondBr
+unfolding trim_start trim_end chars encode
+returns-in-CondBr c = rw c.in-CondBr.is (simp step_rules refl)

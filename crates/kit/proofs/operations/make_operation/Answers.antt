@@ -1,6 +1,6 @@
 use Rattle.std.proofs.Common.{ap, refl}
-use Rattle.kit.specs.Forms.{NamedRegion, TypedRegion, Value, TwoOperands, OneOperand, AnyOperands, Empty, Called, form_of}
-use Rattle.kit.proofs.Numbered.{operation_made, operation_made_of, operation_refused, unread_refused}
+use Rattle.kit.specs.Forms.{NamedRegion, TypedRegion, Value, TwoOperands, OneOperand, AnyOperands, Empty, Called, Edge, ConditionEdges, form_of}
+use Rattle.kit.proofs.Numbered.{operation_made, operation_made_of, operation_refused}
 use Rattle.kit.proofs.operations.make_operation.Goals as goal
 
 pub returns-in-Module-clause-made : goal.returns-in-Module-clause-made
@@ -49,10 +49,10 @@ pub returns-in-ForwardRef-clause-refused : goal.returns-in-ForwardRef-clause-ref
 returns-in-ForwardRef-clause-refused c = λ i f. operation_refused c.args.kind Empty c.args.parts.now c.args.ctx.now.types.keys i (ap form_of c.in-ForwardRef.is) (c.make_of_nothing.ensures.refused i f)
 
 pub returns-in-Br-clause-refused : goal.returns-in-Br-clause-refused
-returns-in-Br-clause-refused c = λ i f. unread_refused c.args.kind c.args.parts.now c.args.ctx.now.types.keys i (ap form_of c.in-Br.is) f
+returns-in-Br-clause-refused c = λ i f. operation_refused c.args.kind Edge c.args.parts.now c.args.ctx.now.types.keys i (ap form_of c.in-Br.is) (c.make_br.ensures.refused i f c.args.ctx.now.types.keys)
 
 pub returns-in-CondBr-clause-refused : goal.returns-in-CondBr-clause-refused
-returns-in-CondBr-clause-refused c = λ i f. unread_refused c.args.kind c.args.parts.now c.args.ctx.now.types.keys i (ap form_of c.in-CondBr.is) f
+returns-in-CondBr-clause-refused c = λ i f. operation_refused c.args.kind ConditionEdges c.args.parts.now c.args.ctx.now.types.keys i (ap form_of c.in-CondBr.is) (c.make_cond_br.ensures.refused i f c.args.ctx.now.types.keys)
 
 pub returns-in-Call-clause-refused : goal.returns-in-Call-clause-refused
 returns-in-Call-clause-refused c = λ i f. operation_refused c.args.kind Called c.args.parts.now c.args.ctx.now.types.keys i (ap form_of c.in-Call.is) (c.make_call.ensures.refused i f)
@@ -121,10 +121,10 @@ pub returns-in-ForwardRef-clause-made : goal.returns-in-ForwardRef-clause-made
 returns-in-ForwardRef-clause-made c = operation_made c.make_of_nothing.result (λ d. d.attributes) (λ d. d.result_types.items) c.args.kind Empty c.args.parts.now c.args.ctx.now.types.keys c.make_of_nothing.new.ctx.types.keys (ap form_of c.in-ForwardRef.is) c.make_of_nothing.ensures.made
 
 pub returns-in-Br-clause-made : goal.returns-in-Br-clause-made
-returns-in-Br-clause-made c = tt
+returns-in-Br-clause-made c = operation_made_of c.make_br.result (λ d. d.attributes) (λ d. d.result_types.items) c.args.kind Edge c.args.parts.now c.args.ctx.now.types.keys (ap form_of c.in-Br.is) c.make_br.ensures.made
 
 pub returns-in-CondBr-clause-made : goal.returns-in-CondBr-clause-made
-returns-in-CondBr-clause-made c = tt
+returns-in-CondBr-clause-made c = operation_made_of c.make_cond_br.result (λ d. d.attributes) (λ d. d.result_types.items) c.args.kind ConditionEdges c.args.parts.now c.args.ctx.now.types.keys (ap form_of c.in-CondBr.is) c.make_cond_br.ensures.made
 
 pub returns-in-Call-clause-made : goal.returns-in-Call-clause-made
 returns-in-Call-clause-made c = operation_made c.make_call.result (λ d. d.attributes) (λ d. d.result_types.items) c.args.kind Called c.args.parts.now c.args.ctx.now.types.keys c.args.ctx.now.types.keys (ap form_of c.in-Call.is) c.make_call.ensures.made

@@ -1,4 +1,4 @@
-use Rattle.std.proofs.Common.{ℕ, [], ◌∷◌, ap, ◌∙◌, length, subst}
+use Rattle.std.proofs.Common.{◌≡◌, ℕ, [], ◌∷◌, ap, ◌∙◌, length, subst}
 use Rattle.std.specs.Result.{IfOk}
 use Rattle.ir_names.specs.Dictionary.{attribute_at}
 use Rattle.ir_print.specs.Shown.{ShowsParts}
@@ -6,11 +6,11 @@ use Rattle.ir_print.specs.declared.format.Part.TheVariants as part
 use Rattle.ir_program.specs.Program.{results_at}
 use Rattle.ir_program.specs.Rows.{operands_at}
 use Rattle.text_dialect.specs.Seen.{types_of}
-use Rattle.kit_ops.specs.Keys.{symbol_name, function_type, callee, callee_type}
-use Rattle.kit.specs.Forms.{NamedRegion, TypedRegion, Value, TwoOperands, OneOperand, AnyOperands, Empty, Called, form_of}
-use Rattle.kit.specs.Parts.{AreModuleParts, AreFunctionParts, AreCallParts}
+use Rattle.kit_ops.specs.Keys.{symbol_name, function_type, callee, callee_type, segment_sizes}
+use Rattle.kit.specs.Forms.{NamedRegion, TypedRegion, Value, TwoOperands, OneOperand, AnyOperands, Empty, Called, Edge, ConditionEdges, form_of}
+use Rattle.kit.specs.Parts.{AreModuleParts, AreFunctionParts, AreCallParts, condition_parts}
 use Rattle.kit.specs.Says.{says}
-use Rattle.kit.proofs.Parted.{if_ok, seen_kind, seen_entries, seen_results, seen_operands, said_as, says_none, named_region_parted, typed_region_parted, value_parted, two_operands_parted, any_operands_parted, one_operand_parted, called_parted, empty_parted}
+use Rattle.kit.proofs.Parted.{if_ok, seen_kind, seen_entries, seen_results, seen_operands, said_as, named_region_parted, typed_region_parted, value_parted, two_operands_parted, any_operands_parted, one_operand_parted, called_parted, empty_parted, edge_parted, edges_parted}
 use Rattle.kit.proofs.operations.operation_parts.Goals as goal
 
 pub returns-in-Module : goal.returns-in-Module
@@ -71,11 +71,20 @@ returns-in-ForwardRef c = λ types o n us ps at e h.
     (seen_kind c.args.ctx.now.program c.args.op o at c.kind.result c.kind.ensures) (ap form_of c.in-ForwardRef.is) (seen_entries c.args.ctx.now.program c.args.op o at c.deref.result.now c.deref.ensures)
     (ap length (seen_operands c.args.ctx.now.program c.args.op o at)) (ap types_of (seen_results c.args.ctx.now.program c.args.op o at)) e) h
 
-pub returns-in-Br : goal.returns-in-Br
-returns-in-Br c = λ types o n us ps at e h. says_none c.kind.result o n us (seen_kind c.args.ctx.now.program c.args.op o at c.kind.result c.kind.ensures) (ap form_of c.in-Br.is) e
+pub returns-in_ok-vec-in-Br : goal.returns-in_ok-vec-in-Br
+returns-in_ok-vec-in-Br c = λ types o n us ps at e h.
+    edge_parted types c.deref.result.now.attributes (length (operands_at c.args.ctx.now.program c.args.op)) (types_of (results_at c.args.ctx.now.program c.args.op)) c.in_ok-vec-in-Br.field-0.items us ps (c.in_ok-vec-in-Br.ensures.items ∙ ap (λ k. part.Successor k ∷ []) c.get_num_operands-in-Br.ensures)
+    (said_as c.kind.result Edge c.deref.result.now.attributes (length (operands_at c.args.ctx.now.program c.args.op)) (types_of (results_at c.args.ctx.now.program c.args.op)) o n us
+    (seen_kind c.args.ctx.now.program c.args.op o at c.kind.result c.kind.ensures) (ap form_of c.in-Br.is) (seen_entries c.args.ctx.now.program c.args.op o at c.deref.result.now c.deref.ensures)
+    (ap length (seen_operands c.args.ctx.now.program c.args.op o at)) (ap types_of (seen_results c.args.ctx.now.program c.args.op o at)) e) h
 
 pub returns-in-CondBr : goal.returns-in-CondBr
-returns-in-CondBr c = λ types o n us ps at e h. says_none c.kind.result o n us (seen_kind c.args.ctx.now.program c.args.op o at c.kind.result c.kind.ensures) (ap form_of c.in-CondBr.is) e
+returns-in-CondBr c = λ types o n us ps at e h.
+    if_ok c.edge_parts.result (λ parts. parts.items ≡ condition_parts (attribute_at c.deref.result.now.attributes segment_sizes)) (λ parts. ShowsParts says types parts.items ps) c.edge_parts.ensures
+    (λ parts is. edges_parted types c.deref.result.now.attributes (length (operands_at c.args.ctx.now.program c.args.op)) (types_of (results_at c.args.ctx.now.program c.args.op)) parts.items us ps is
+    (said_as c.kind.result ConditionEdges c.deref.result.now.attributes (length (operands_at c.args.ctx.now.program c.args.op)) (types_of (results_at c.args.ctx.now.program c.args.op)) o n us
+    (seen_kind c.args.ctx.now.program c.args.op o at c.kind.result c.kind.ensures) (ap form_of c.in-CondBr.is) (seen_entries c.args.ctx.now.program c.args.op o at c.deref.result.now c.deref.ensures)
+    (ap length (seen_operands c.args.ctx.now.program c.args.op o at)) (ap types_of (seen_results c.args.ctx.now.program c.args.op o at)) e) h)
 
 pub returns-in-Call : goal.returns-in-Call
 returns-in-Call c = λ types o n us ps at e h.
