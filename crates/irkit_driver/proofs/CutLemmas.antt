@@ -5,7 +5,6 @@ use Rattle.ir_forest.specs.Closed.{IsClosedTree, IsNumbered, IsSameModule, unlab
 use Rattle.ir_print.specs.Pieces.{Entity}
 use Rattle.ir_program.specs.declared.handles.Operation.{Operation}
 use Rattle.ir_program.specs.declared.handles.Ptr.{Ptr}
-use Rattle.ir_program.specs.declared.handles.Value.{Value}
 use Rattle.ir_rereading.specs.Texts.{Says}
 use Rattle.ir_trees.proofs.OneTree.{one_tree}
 use Rattle.ir_trees.proofs.Same.{same_on}
@@ -30,7 +29,7 @@ use Rattle.opt_meanings.specs.Meanings.{mean_root}
 use Rattle.opt_trees.specs.Occurrences.{Has}
 use Rattle.text_dialect.specs.Seen.{Seen, seen}
 use Rattle.text_dialect.specs.Standing.{StandsForTexts}
-use Rattle.text_rereading.specs.Rereading.{Named}
+use Rattle.text_rereading.specs.Rereading.{Numbering, Named}
 use Rattle.irkit_running.specs.Lists.{PassesGive}
 use Rattle.irkit_running.specs.Outcomes.{RunGives}
 use Rattle.irkit_driver.specs.Same.{HaveOneModule}
@@ -42,13 +41,13 @@ one_said bytes text other h k = one_tree_said kit_language leads refl (chars byt
 
 -- what a text says, and an operation stands for, is closed
 abbrev pub SaidAreClosed : Type 0
-SaidAreClosed = (values : List Value) (s : Seen KitOp KitAttr KitType) (root : Ptr Operation) (cs : List ℕ) (tree : Entity ℕ)
-    → Says kit_language cs tree → StandsForTexts says (Named values) s root tree → IsClosedTree kit_language tree × IsNumbered tree
+SaidAreClosed = (numbering : Numbering) (s : Seen KitOp KitAttr KitType) (root : Ptr Operation) (cs : List ℕ) (tree : Entity ℕ)
+    → Says kit_language cs tree → StandsForTexts says (Named numbering) s root tree → IsClosedTree kit_language tree × IsNumbered tree
 
 -- an operation stands for the tree of texts that it holds
 holding : (text : Entity ℕ) (s : KitContext) (root : Ptr Operation) (h : HoldsText text s root) → StandsAs text s root h.tree
 holding text s root h = record {
-  values = h.values;
+  numbering = h.numbering;
   distinct = h.distinct;
   stands = h.stands;
   is_tree = h.is_tree;
@@ -86,7 +85,7 @@ module _ (closed : SaidAreClosed) (numbers : TypesAreNumbered) (alike : OneTextS
   closed_said : (passes : List KitPass) (input output : List ℕ) (g : RunGives passes input output)
       → IsClosedTree kit_language g.accepted.0.text
   closed_said passes input output g =
-      (closed g.accepted.0.holds.values (seen g.before) g.root (chars input) g.accepted.0.text g.accepted.0.says_it.1
+      (closed g.accepted.0.holds.numbering (seen g.before) g.root (chars input) g.accepted.0.text g.accepted.0.says_it.1
       g.accepted.0.holds.stands).0
 
   -- the trees that are read and those that are written

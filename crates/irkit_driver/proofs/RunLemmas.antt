@@ -37,7 +37,7 @@ module _ (law : TextsHaveOneProgram) (numbered : List ℕ → ℕ) where
       → StandsFor z.program there u → (p q : FunctionsByPath Place) → HasProgram s numbered t p → HasProgram z numbered u q
       → p ≡ q
   one_of_texts text other same s z root there h k t u tree trees p q is was =
-      law text other numbered s z root there h.values k.values t u p q same h.distinct k.distinct h.stands k.stands
+      law text other numbered s z root there h.numbering k.numbering t u p q same h.distinct k.distinct h.stands k.stands
       tree trees is was
 
   -- bytes have one program

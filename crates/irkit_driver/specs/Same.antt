@@ -4,8 +4,8 @@ use Rattle.ir_forest.specs.Closed.{IsSameModule}
 use Rattle.ir_print.specs.Pieces.{Entity}
 use Rattle.irkit_refusals.specs.Texts.{SaysTree}
 
--- The texts say trees that are the same but for labels: kinds, types and attributes at each place, and which
--- definitions operands name. No text of today has successors.
+-- The texts say trees that are the same but for labels: kinds, types and attributes at each place, which definitions
+-- operands name, and which blocks edges name.
 pub record HaveOneModule (text other : List ℕ) : Type 0 where
   pub tree : Entity ℕ
   pub other_tree : Entity ℕ

@@ -17,7 +17,7 @@ module _ (law : TextsHaveOneVerdict) (text other : Entity ℕ) (same : IsSameMod
   -- the two operations have one verdict
   pub one_verdict : HasVerdictOf s z h.tree k.tree
   one_verdict =
-      law text other s z root there h.values k.values h.tree k.tree same h.distinct k.distinct h.stands k.stands h.is_tree k.is_tree
+      law text other s z root there h.numbering k.numbering h.tree k.tree same h.distinct k.distinct h.stands k.stands h.is_tree k.is_tree
       h.handles k.handles h.types k.types
 
   -- where the one keeps the rules, so does the other

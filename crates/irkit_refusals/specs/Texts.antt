@@ -3,7 +3,6 @@ use Rattle.std.specs.Prelude.{ℕ, ◌+◌, ◌^◌, ◌≤◌, List, IsUtf8, ch
 use Rattle.ir_print.specs.Pieces.{Entity}
 use Rattle.ir_program.specs.declared.handles.Operation.{Operation}
 use Rattle.ir_program.specs.declared.handles.Ptr.{Ptr}
-use Rattle.ir_program.specs.declared.handles.Value.{Value}
 use Rattle.ir_rereading.specs.Texts.{IsTextFault, Says, HasDefinitions}
 use Rattle.ir_tokens.specs.declared.faults.TextFault.{TextFault}
 use Rattle.ir_trees.specs.Stands.{StandsFor}
@@ -20,7 +19,7 @@ use Rattle.kit_text_programs.specs.RuleLaws.{HaveWrittenTypes}
 use Rattle.kit.specs.Says.{says}
 use Rattle.text_dialect.specs.Seen.{seen}
 use Rattle.text_dialect.specs.Standing.{StandsForTexts}
-use Rattle.text_rereading.specs.Rereading.{Named}
+use Rattle.text_rereading.specs.Rereading.{Numbering, Named}
 
 -- The bytes are UTF-8, and this is the first fault of their characters.
 abbrev pub HasFirstTextFault : List ℕ → TextFault → Type 0
@@ -30,13 +29,13 @@ HasFirstTextFault bytes fault = IsUtf8 bytes × IsTextFault kit_language (chars 
 abbrev pub SaysTree : List ℕ → Entity ℕ → Type 0
 SaysTree bytes text = IsUtf8 bytes × Says kit_language (chars bytes) text
 
--- An operation of a context stands for a tree of texts, different numbers of which name different values. The last
+-- An operation of a context stands for a tree of texts, different numbers of which name different values and blocks. The last
 -- three fields hold of each context: below the operation no two operations, blocks or definitions have one handle, a
 -- type has one handle, and values have the types that are written where they are defined.
 pub record HoldsText (text : Entity ℕ) (s : KitContext) (root : Ptr Operation) : Type 0 where
-  pub values : List Value
-  pub distinct : HaveOwnNumbers values
-  pub stands : StandsForTexts says (Named values) (seen s) root text
+  pub numbering : Numbering
+  pub distinct : HaveOwnNumbers numbering
+  pub stands : StandsForTexts says (Named numbering) (seen s) root text
   pub tree : KitTree
   pub is_tree : StandsFor s.program root tree
   pub names : HasOwnNames tree

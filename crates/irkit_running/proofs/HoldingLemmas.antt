@@ -93,3 +93,12 @@ module_gives_nothing s t kept =
     let kind = kept rule.RootIsModule [] site refl refl in
     let fits = subst (FitsKind (world_of s) t) kind (kept rule.FitsFormat [] site refl) in
     nothing t.head.results fits.0.results
+
+-- and goes on to no block
+pub module_goes_nowhere : (s : KitContext) (t : KitTree) → ((r : Rule) → KeptEverywhere (world_of s) t r)
+    → t.head.successors ≡ []
+module_goes_nowhere s t kept =
+    let site : Site KitOperation KitBlock = record { op = t; around = None } in
+    let kind = kept rule.RootIsModule [] site refl refl in
+    let fits = subst (FitsKind (world_of s) t) kind (kept rule.FitsFormat [] site refl) in
+    nothing t.head.successors fits.0.successors

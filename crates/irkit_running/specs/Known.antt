@@ -1,11 +1,12 @@
 -- What is known of a module of a context before it is written or its passes run.
-use Rattle.std.specs.Prelude.{ℕ}
+use Rattle.std.specs.Prelude.{◌≡◌, ℕ, List, Some, slice_get}
 use Rattle.ir_forest.specs.Closed.{IsClosedTree, IsNumbered}
 use Rattle.ir_formats.specs.Rules.{IsGrammarOf}
 use Rattle.ir_grammar.specs.declared.grammar.Grammar.{Grammar}
 use Rattle.ir_print.specs.Pieces.{Entity}
 use Rattle.ir_program.specs.declared.handles.Operation.{Operation}
 use Rattle.ir_program.specs.declared.handles.Ptr.{Ptr}
+use Rattle.ir_program.specs.declared.handles.Value.{Value}
 use Rattle.ir_trees.specs.Stands.{StandsFor}
 use Rattle.text_dialect.specs.Seen.{Seen}
 use Rattle.kit_ops.specs.declared.attributes.KitAttr.{KitAttr}
@@ -20,6 +21,11 @@ use Rattle.irkit_refusals.specs.Texts.{HoldsText}
 -- what texts need of a context of `kit`
 abbrev pub KitSeen : Type 0
 KitSeen = Seen KitOp KitAttr KitType
+
+-- no two of the values have one number
+abbrev pub HaveDistinctNumbers : List Value → Type 0
+HaveDistinctNumbers values = (i j : ℕ) (v w : Value) → slice_get values i ≡ Some v → slice_get values j ≡ Some w →
+    v.number ≡ w.number → i ≡ j
 
 -- the operation can be written as a text
 abbrev pub CanBeWritten : KitContext → Ptr Operation → Type 0

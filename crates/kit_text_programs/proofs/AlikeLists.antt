@@ -1,10 +1,10 @@
 -- Lists whose members belong to one another one by one.
-use Rattle.std.proofs.Common.{◌≡◌, ℕ, zero, suc, List, [], ◌∷◌, ◌++◌, map, take, length, Option, Some, None}
+use Rattle.std.proofs.Common.{◌≡◌, ℕ, zero, suc, List, [], ◌∷◌, ◌++◌, map, take, drop, length, Option, Some, None}
 use Rattle.std.proofs.Common.{slice_get, refl}
 use Rattle.std.proofs.Common.{ap, ◌∙◌, subst}
 use Rattle.ir_print.specs.Shown.{Pairs}
 use Rattle.ir_trees.specs.Searched.{Lists}
-use Rattle.kit_checks.specs.Words.{Every, AreAllEqual, joined}
+use Rattle.kit_checks.specs.Words.{Every, AreAllEqual, joined, segment}
 use Rattle.kit_text_programs.specs.Alike.{AreBoth, IsInjective}
 
 module _ {X Y : Type 0} (R : X → Y → Type 0) where
@@ -139,3 +139,26 @@ pairs_mapped R S f g each [] [] h = tt
 pairs_mapped R S f g each [] (y ∷ ys) h = absurd h
 pairs_mapped R S f g each (x ∷ xs) [] h = absurd h
 pairs_mapped R S f g each (x ∷ xs) (y ∷ ys) h = (each x y h.0, pairs_mapped R S f g each xs ys h.1)
+
+pub pairs_unmapped : {X Y A D : Type 0} (S : A → D → Type 0) (f : X → A) (g : Y → D) (xs : List X) (ys : List Y)
+    → Pairs S (map f xs) (map g ys) → Pairs (λ x y. S (f x) (g y)) xs ys
+pairs_unmapped S f g [] [] h = tt
+pairs_unmapped S f g [] (y ∷ ys) h = absurd h
+pairs_unmapped S f g (x ∷ xs) [] h = absurd h
+pairs_unmapped S f g (x ∷ xs) (y ∷ ys) h = (h.0, pairs_unmapped S f g xs ys h.1)
+
+pub pairs_dropped : {X Y : Type 0} (R : X → Y → Type 0) (xs : List X) (ys : List Y) (n : ℕ) → Pairs R xs ys
+    → Pairs R (drop n xs) (drop n ys)
+pairs_dropped R xs ys zero h = h
+pairs_dropped R [] [] (suc n) h = tt
+pairs_dropped R [] (y ∷ ys) (suc n) h = absurd h
+pairs_dropped R (x ∷ xs) [] (suc n) h = absurd h
+pairs_dropped R (x ∷ xs) (y ∷ ys) (suc n) h = pairs_dropped R xs ys n h.1
+
+-- so it is of each segment
+pub pairs_segment : {X Y : Type 0} (R : X → Y → Type 0) (xs : List X) (ys : List Y) (sizes : List ℕ) (i : ℕ)
+    → Pairs R xs ys → Pairs R (segment xs sizes i) (segment ys sizes i)
+pairs_segment R xs ys [] i h = tt
+pairs_segment R xs ys (n ∷ sizes) zero h = pairs_taken R xs ys n h
+pairs_segment R xs ys (n ∷ sizes) (suc i) h =
+    pairs_segment R (drop n xs) (drop n ys) sizes i (pairs_dropped R xs ys n h)

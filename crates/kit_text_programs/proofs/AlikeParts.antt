@@ -4,6 +4,8 @@ use Rattle.std.proofs.Common.{option_and_then, refl, subst}
 use Rattle.std.specs.Prelude.{◌==◌}
 use Rattle.ir_base.specs.declared.types.TypeHandle.{TypeHandle}
 use Rattle.ir_print.specs.Shown.{Pairs}
+use Rattle.ir_program.specs.declared.handles.BasicBlock.{BasicBlock}
+use Rattle.ir_program.specs.declared.handles.Ptr.{Ptr}
 use Rattle.ir_program.specs.declared.handles.Value.{Value}
 use Rattle.ir_trees.specs.Stands.{ProgramTree}
 use Rattle.ir_trees.specs.Trees.{Defined, Operations, Blocks, Regions}
@@ -20,41 +22,41 @@ use Rattle.kit_text_programs.specs.Alike.{AreTrees, AreBodies, AreAround, AreSit
 use Rattle.kit_text_programs.proofs.AlikeLists.{both_at, all_joined, pairs_joined, pairs_mapped, pairs_taken}
 
 module _ {O B P C : Type 0} (w : World O B) (x : World P C) (OfTypes : TypeHandle → TypeHandle → Type 0)
-    (OfValues : Value → Value → Type 0) where
+    (OfValues : Value → Value → Type 0) (OfBlocks : Ptr BasicBlock → Ptr BasicBlock → Type 0) where
   abbrev Defines : Defined Value TypeHandle → Defined Value TypeHandle → Type 0
-  Defines = AreDefinedAlike w x OfTypes OfValues
+  Defines = AreDefinedAlike w x OfTypes OfValues OfBlocks
 
   abbrev Typed : Value → Value → Type 0
-  Typed = AreTypedAlike w x OfTypes OfValues
+  Typed = AreTypedAlike w x OfTypes OfValues OfBlocks
 
   abbrev Trees : ProgramTree O B → ProgramTree P C → Type 0
-  Trees = AreTrees w x OfTypes OfValues
+  Trees = AreTrees w x OfTypes OfValues OfBlocks
 
   abbrev Bodies : Body O B → Body P C → Type 0
-  Bodies = AreBodies w x OfTypes OfValues
+  Bodies = AreBodies w x OfTypes OfValues OfBlocks
 
   pub listed_operations : (os : Listed O B Operations) (ps : Listed P C Operations)
-      → AreAlike w x OfTypes OfValues Operations os ps → Pairs Trees (operation_list os) (operation_list ps)
+      → AreAlike w x OfTypes OfValues OfBlocks Operations os ps → Pairs Trees (operation_list os) (operation_list ps)
   listed_operations os ps no_operations = tt
   listed_operations os ps (operations h k rs qs rest others heads inside after) =
       (record { heads = heads; inside = inside }, listed_operations rest others after)
 
   pub listed_blocks : (bs : Listed O B Blocks) (cs : Listed P C Blocks)
-      → AreAlike w x OfTypes OfValues Blocks bs cs → Pairs Bodies (block_list bs) (block_list cs)
+      → AreAlike w x OfTypes OfValues OfBlocks Blocks bs cs → Pairs Bodies (block_list bs) (block_list cs)
   listed_blocks bs cs no_blocks = tt
-  listed_blocks bs cs (blocks l m os ps rest others arguments known inside after) =
-      (record { arguments = arguments; known = known; listed = inside }, listed_blocks rest others after)
+  listed_blocks bs cs (blocks l m os ps rest others names arguments known inside after) =
+      (record { names = names; arguments = arguments; known = known; listed = inside }, listed_blocks rest others after)
 
   pub listed_regions : (rs : Listed O B Regions) (qs : Listed P C Regions)
-      → AreAlike w x OfTypes OfValues Regions rs qs
-      → Pairs (AreAlike w x OfTypes OfValues Blocks) (region_list rs) (region_list qs)
+      → AreAlike w x OfTypes OfValues OfBlocks Regions rs qs
+      → Pairs (AreAlike w x OfTypes OfValues OfBlocks Blocks) (region_list rs) (region_list qs)
   listed_regions rs qs no_regions = tt
   listed_regions rs qs (regions bs cs rest others inside after) = (inside, listed_regions rest others after)
 
-  pub region_bodies : (rs : Listed O B Regions) (qs : Listed P C Regions) → AreAlike w x OfTypes OfValues Regions rs qs
+  pub region_bodies : (rs : Listed O B Regions) (qs : Listed P C Regions) → AreAlike w x OfTypes OfValues OfBlocks Regions rs qs
       → Pairs (Pairs Bodies) (map block_list (region_list rs)) (map block_list (region_list qs))
   region_bodies rs qs h =
-      pairs_mapped (AreAlike w x OfTypes OfValues Blocks) (Pairs Bodies) block_list block_list listed_blocks
+      pairs_mapped (AreAlike w x OfTypes OfValues OfBlocks Blocks) (Pairs Bodies) block_list block_list listed_blocks
       (region_list rs) (region_list qs) (listed_regions rs qs h)
 
   pub bodies_alike : (t : ProgramTree O B) (u : ProgramTree P C) → Trees t u → Pairs Bodies (bodies_of t) (bodies_of u)
@@ -62,12 +64,12 @@ module _ {O B P C : Type 0} (w : World O B) (x : World P C) (OfTypes : TypeHandl
       all_joined Bodies (map block_list (region_list t.regions)) (map block_list (region_list u.regions))
       (region_bodies t.regions u.regions h.inside)
 
-  pub first_alike : (bs : Listed O B Blocks) (cs : Listed P C Blocks) → AreAlike w x OfTypes OfValues Blocks bs cs
+  pub first_alike : (bs : Listed O B Blocks) (cs : Listed P C Blocks) → AreAlike w x OfTypes OfValues OfBlocks Blocks bs cs
       → AreBoth Bodies (first_body bs) (first_body cs)
   first_alike bs cs h = both_at Bodies (block_list bs) (block_list cs) (listed_blocks bs cs h) 0
 
   entry_from : (o : Option (Listed O B Blocks)) (p : Option (Listed P C Blocks))
-      → AreBoth (AreAlike w x OfTypes OfValues Blocks) o p
+      → AreBoth (AreAlike w x OfTypes OfValues OfBlocks Blocks) o p
       → AreBoth Bodies (option_and_then first_body o) (option_and_then first_body p)
   entry_from None None h = tt
   entry_from None (Some c) h = absurd h
@@ -77,7 +79,7 @@ module _ {O B P C : Type 0} (w : World O B) (x : World P C) (OfTypes : TypeHandl
   pub entry_alike : (t : ProgramTree O B) (u : ProgramTree P C) → Trees t u → AreBoth Bodies (entry_of t) (entry_of u)
   entry_alike t u h =
       entry_from (slice_get (region_list t.regions) 0) (slice_get (region_list u.regions) 0)
-      (both_at (AreAlike w x OfTypes OfValues Blocks) (region_list t.regions) (region_list u.regions)
+      (both_at (AreAlike w x OfTypes OfValues OfBlocks Blocks) (region_list t.regions) (region_list u.regions)
       (listed_regions t.regions u.regions h.inside) 0)
 
   -- the operations of all blocks
@@ -159,7 +161,7 @@ module _ {O B P C : Type 0} (w : World O B) (x : World P C) (OfTypes : TypeHandl
   unless_alike true vs us h = tt
   unless_alike false vs us h = h
 
-  visible_at : (a : Around O B) (b : Around P C) → AreAround w x OfTypes OfValues a b → (n k : ℕ)
+  visible_at : (a : Around O B) (b : Around P C) → AreAround w x OfTypes OfValues OfBlocks a b → (n k : ℕ)
       → Pairs Typed (values_before a.body k ++ cond (n == 0) [] (values_if (first_body a.blocks)))
       (values_before b.body k ++ cond (n == 0) [] (values_if (first_body b.blocks)))
   visible_at a b h n k =
@@ -169,7 +171,7 @@ module _ {O B P C : Type 0} (w : World O B) (x : World P C) (OfTypes : TypeHandl
       (unless_alike (n == 0) (values_if (first_body a.blocks)) (values_if (first_body b.blocks))
       (if_alike (first_body a.blocks) (first_body b.blocks) (first_alike a.blocks b.blocks h.beside)))
 
-  pub visible_alike : (a : Around O B) (b : Around P C) → AreAround w x OfTypes OfValues a b
+  pub visible_alike : (a : Around O B) (b : Around P C) → AreAround w x OfTypes OfValues OfBlocks a b
       → Pairs Typed (visible a) (visible b)
   visible_alike a b h =
       subst (λ (k : ℕ). Pairs Typed (visible a) (values_before b.body k ++ cond (b.number == 0) []
@@ -180,7 +182,7 @@ module _ {O B P C : Type 0} (w : World O B) (x : World P C) (OfTypes : TypeHandl
   -- ---- sites
 
   abbrev Sites : Site O B → Site P C → Type 0
-  Sites = AreSitesAlike w x OfTypes OfValues
+  Sites = AreSitesAlike w x OfTypes OfValues OfBlocks
 
   then_sites : {X Y U V : Type 0} (R : X → Y → Type 0) (Q : U → V → Type 0) (f : X → Option U) (g : Y → Option V)
       → ((a : X) (b : Y) → R a b → AreBoth Q (f a) (g b)) → (o : Option X) (p : Option Y) → AreBoth R o p
@@ -197,7 +199,7 @@ module _ {O B P C : Type 0} (w : World O B) (x : World P C) (OfTypes : TypeHandl
   from_alike (r ∷ []) s z outer others h above = tt
   from_alike (r ∷ b ∷ []) s z outer others h above = tt
   from_alike (r ∷ b ∷ k ∷ p) s z outer others h above =
-      then_sites (AreAlike w x OfTypes OfValues Blocks) Sites _ _ (λ bs cs in_region.
+      then_sites (AreAlike w x OfTypes OfValues OfBlocks Blocks) Sites _ _ (λ bs cs in_region.
       then_sites Bodies Sites _ _ (λ body other in_block.
       then_sites Trees Sites _ _ (λ t u here.
       from_alike p _ _ (s.op ∷ outer) (z.op ∷ others) (record {
@@ -218,7 +220,7 @@ module _ {O B P C : Type 0} (w : World O B) (x : World P C) (OfTypes : TypeHandl
       (slice_get (block_list bs) b) (slice_get (block_list cs) b)
       (both_at Bodies (block_list bs) (block_list cs) (listed_blocks bs cs in_region) b))
       (slice_get (region_list s.op.regions) r) (slice_get (region_list z.op.regions) r)
-      (both_at (AreAlike w x OfTypes OfValues Blocks) (region_list s.op.regions) (region_list z.op.regions)
+      (both_at (AreAlike w x OfTypes OfValues OfBlocks Blocks) (region_list s.op.regions) (region_list z.op.regions)
       (listed_regions s.op.regions z.op.regions h.trees.inside) r)
 
   -- at each place of the one tree stands what is alike at the place of the other

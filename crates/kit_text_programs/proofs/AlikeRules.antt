@@ -2,9 +2,10 @@
 use Rattle.std.proofs.Common.{◌≡◌, ◌≢◌, ◌↔◌, ◌<◌, ◌+◌, ◌^◌, ℕ, suc, true, List, [], ◌∷◌, ◌++◌, map, length, Option}
 use Rattle.std.proofs.Common.{Some, None}
 use Rattle.std.proofs.Common.{slice_get, option_and_then, refl, sym, ap, ◌∙◌, subst}
-use Rattle.std.proofs.lemmas.Option.{none-some}
 use Rattle.ir_base.specs.declared.types.TypeHandle.{TypeHandle}
 use Rattle.ir_print.specs.Shown.{Pairs}
+use Rattle.ir_program.specs.declared.handles.BasicBlock.{BasicBlock}
+use Rattle.ir_program.specs.declared.handles.Ptr.{Ptr}
 use Rattle.ir_program.specs.declared.handles.Value.{Value}
 use Rattle.ir_trees.specs.Searched.{Lists}
 use Rattle.ir_trees.specs.Trees.{Blocks}
@@ -12,7 +13,6 @@ use Rattle.kit_ops.specs.declared.attributes.KitAttr.TheVariants as attrs
 use Rattle.kit_ops.specs.declared.kinds.KitOp.{KitOp}
 use Rattle.kit_ops.specs.declared.kinds.KitOp.TheVariants as ops
 use Rattle.kit_ops.specs.declared.types.IntegerType.{IntegerType}
-use Rattle.kit.specs.Forms.{number_of}
 use Rattle.kit_checks.specs.declared.rule.Rule.{Rule}
 use Rattle.kit_checks.specs.declared.rule.Rule.TheVariants as rule
 use Rattle.kit_checks.specs.Faults.{Keeps}
@@ -26,8 +26,8 @@ use Rattle.kit_text_programs.specs.Alike.{AreSitesAlike}
 use Rattle.kit_text_programs.proofs.AlikeLists.{same_length, beside, before, none_left, every_back, list_back, both_back}
 use Rattle.kit_text_programs.proofs.AlikeLists.{member_back}
 use Rattle.kit_text_programs.proofs.AlikeLists.{alike_back, some_first, some_second, none_second, pairs_joined}
-use Rattle.kit_text_programs.proofs.AlikeLists.{pairs_mapped}
-use Rattle.kit_text_programs.proofs.AlikeParts.{listed_operations, listed_regions, members_alike, modules_alike}
+use Rattle.kit_text_programs.proofs.AlikeLists.{pairs_mapped, pairs_unmapped, pairs_segment}
+use Rattle.kit_text_programs.proofs.AlikeParts.{listed_operations, listed_blocks, listed_regions, members_alike, modules_alike}
 use Rattle.kit_text_programs.proofs.AlikeParts.{region_bodies, bodies_alike}
 use Rattle.kit_text_programs.proofs.AlikeParts.{entry_alike, types_alike}
 use Rattle.kit_text_programs.proofs.AlikeParts.{visible_alike}
@@ -64,7 +64,7 @@ one_one R (a ∷ xs) (b ∷ ys) y h e =
         (a, ap (λ vs. a ∷ vs) rest, subst (λ v. R a v) same h.0)
 
 module _ {O B P C : Type 0} (w : World O B) (x : World P C) (OfTypes : TypeHandle → TypeHandle → Type 0)
-    (OfValues : Value → Value → Type 0) (agree : BelongTogether w x OfTypes OfValues) where
+    (OfValues : Value → Value → Type 0) (OfBlocks : Ptr BasicBlock → Ptr BasicBlock → Type 0) (agree : BelongTogether w x OfTypes OfValues OfBlocks) where
   -- ---- types
 
   integer_back : (a c : TypeHandle) → OfTypes a c → words.IsInteger x c → words.IsInteger w a
@@ -77,7 +77,7 @@ module _ {O B P C : Type 0} (w : World O B) (x : World P C) (OfTypes : TypeHandl
   bit_back a c h is = agree.integers a c h ∙ is
 
   function_back : (o p : Option TypeHandle) → AreBoth OfTypes o p
-      → AreBoth (AreSignatures w x OfTypes OfValues) (option_and_then (words.function_type w) o)
+      → AreBoth (AreSignatures w x OfTypes OfValues OfBlocks) (option_and_then (words.function_type w) o)
       (option_and_then (words.function_type x) p)
   function_back None None h = tt
   function_back None (Some c) h = absurd h
@@ -93,14 +93,14 @@ module _ {O B P C : Type 0} (w : World O B) (x : World P C) (OfTypes : TypeHandl
       (map x.value_type us) (map Some gs) values (map_some OfTypes hs gs types) have
 
   -- a value that is among typed ones has the type of the one beside it
-  typed_among : (vs us : List Value) (v u : Value) → Pairs (AreTypedAlike w x OfTypes OfValues) vs us → OfValues v u
+  typed_among : (vs us : List Value) (v u : Value) → Pairs (AreTypedAlike w x OfTypes OfValues OfBlocks) vs us → OfValues v u
       → Lists us u → AreBoth OfTypes (w.value_type v) (x.value_type u)
   typed_among vs us v u h r at =
-      let other = before (AreTypedAlike w x OfTypes OfValues) vs us h at.0 u at.1 in
+      let other = before (AreTypedAlike w x OfTypes OfValues OfBlocks) vs us h at.0 u at.1 in
       let same : other.0 ≡ v = agree.values_back other.0 v u u other.2.0 r refl in
       subst (λ a. AreBoth OfTypes (w.value_type a) (x.value_type u)) same other.2.1
 
-  operands_among : (vs us ds cs : List Value) → Pairs (AreTypedAlike w x OfTypes OfValues) vs us → Pairs OfValues ds cs
+  operands_among : (vs us ds cs : List Value) → Pairs (AreTypedAlike w x OfTypes OfValues OfBlocks) vs us → Pairs OfValues ds cs
       → ((k : ℕ) (c : Value) → slice_get cs k ≡ Some c → Lists us c)
       → Pairs (AreBoth OfTypes) (map w.value_type ds) (map x.value_type cs)
   operands_among vs us [] [] h r among = tt
@@ -111,26 +111,26 @@ module _ {O B P C : Type 0} (w : World O B) (x : World P C) (OfTypes : TypeHandl
     operands_among vs us ds cs h r.1 (λ k d at. among (suc k) d at),
   )
 
-  module _ (s : Site O B) (z : Site P C) (h : AreSitesAlike w x OfTypes OfValues s z) where
+  -- the types of the values belong to one another
+  abbrev TypesBeside : Value → Value → Type 0
+  TypesBeside v u = AreBoth OfTypes (w.value_type v) (x.value_type u)
+
+  module _ (s : Site O B) (z : Site P C) (h : AreSitesAlike w x OfTypes OfValues OfBlocks s z) where
     same_kind : words.kind_of w s.op ≡ words.kind_of x z.op
     same_kind = h.trees.heads.kinds
 
     -- what is around the first has something beside it
     around_beside : (a : Around O B) → s.around ≡ Some a
-        → (b : Around P C) × (z.around ≡ Some b) × AreAround w x OfTypes OfValues a b
-    around_beside a e = some_second (AreAround w x OfTypes OfValues) s.around z.around a h.surroundings e
+        → (b : Around P C) × (z.around ≡ Some b) × AreAround w x OfTypes OfValues OfBlocks a b
+    around_beside a e = some_second (AreAround w x OfTypes OfValues OfBlocks) s.around z.around a h.surroundings e
 
     none_beside : s.around ≡ None → z.around ≡ None
-    none_beside e = none_second (AreAround w x OfTypes OfValues) s.around z.around h.surroundings e
+    none_beside e = none_second (AreAround w x OfTypes OfValues OfBlocks) s.around z.around h.surroundings e
 
     in_kind : (k : KitOp) (a : Around O B) → rules.InKind w s k a
-        → (b : Around P C) × rules.InKind x z k b × AreAround w x OfTypes OfValues a b
+        → (b : Around P C) × rules.InKind x z k b × AreAround w x OfTypes OfValues OfBlocks a b
     in_kind k a is =
         let b = around_beside a is.0 in (b.0, (b.1, sym b.2.owners.heads.kinds ∙ is.1), b.2)
-
-    unread : (k : KitOp) → number_of k ≡ None → words.kind_of w s.op ≡ k → ⊥
-    unread k none is =
-        none-some h.trees.heads.number (sym none ∙ ap number_of (sym is) ∙ h.trees.heads.numbered)
 
     -- ---- 1
 
@@ -141,21 +141,21 @@ module _ {O B P C : Type 0} (w : World O B) (x : World P C) (OfTypes : TypeHandl
 
     module_body : rules.HasModuleBody z.op → rules.HasModuleBody s.op
     module_body has =
-        let one = one_one (AreBodies w x OfTypes OfValues) (map block_list (region_list s.op.regions))
+        let one = one_one (AreBodies w x OfTypes OfValues OfBlocks) (map block_list (region_list s.op.regions))
         (map block_list (region_list z.op.regions)) has.body
-        (region_bodies w x OfTypes OfValues s.op.regions z.op.regions h.trees.inside) has.one in
+        (region_bodies w x OfTypes OfValues OfBlocks s.op.regions z.op.regions h.trees.inside) has.one in
         record {
           body = one.0;
           one = one.1;
           no_arguments = none_left _ one.0.label.arguments has.body.label.arguments one.2.arguments has.no_arguments;
         }
 
-    fresh_name : (a : Around O B) (b : Around P C) → AreAround w x OfTypes OfValues a b
+    fresh_name : (a : Around O B) (b : Around P C) → AreAround w x OfTypes OfValues OfBlocks a b
         → rules.HasFreshName x b z.op → rules.HasFreshName w a s.op
     fresh_name a b around fresh k other name less at named own =
-        let there = beside (AreTrees w x OfTypes OfValues) (operation_list a.body.operations)
+        let there = beside (AreTrees w x OfTypes OfValues OfBlocks) (operation_list a.body.operations)
         (operation_list b.body.operations)
-        (listed_operations w x OfTypes OfValues a.body.operations b.body.operations around.bodies.listed) k other at in
+        (listed_operations w x OfTypes OfValues OfBlocks a.body.operations b.body.operations around.bodies.listed) k other at in
         fresh k there.0 name (subst (λ n. k < n) around.indices less) there.1 (sym there.2.heads.names ∙ named)
         (sym h.trees.heads.names ∙ own)
 
@@ -170,11 +170,11 @@ module _ {O B P C : Type 0} (w : World O B) (x : World P C) (OfTypes : TypeHandl
 
     function_body : words.kind_of w s.op ≡ ops.Func → rules.HasFunctionBody x z.op → rules.HasFunctionBody w s.op
     function_body is has =
-        let type = some_first (AreSignatures w x OfTypes OfValues) (words.signature w s.op) (words.signature x z.op)
+        let type = some_first (AreSignatures w x OfTypes OfValues OfBlocks) (words.signature w s.op) (words.signature x z.op)
         has.type (function_back (words.own_type w s.op) (words.own_type x z.op)
         (h.trees.heads.types is)) has.has_type in
-        let entry = some_first (AreBodies w x OfTypes OfValues) (words.entry_of s.op) (words.entry_of z.op) has.entry
-        (entry_alike w x OfTypes OfValues s.op z.op h.trees) has.has_entry in
+        let entry = some_first (AreBodies w x OfTypes OfValues OfBlocks) (words.entry_of s.op) (words.entry_of z.op) has.entry
+        (entry_alike w x OfTypes OfValues OfBlocks s.op z.op h.trees) has.has_entry in
         record {
           type = type.0;
           has_type = type.1;
@@ -186,7 +186,7 @@ module _ {O B P C : Type 0} (w : World O B) (x : World P C) (OfTypes : TypeHandl
           has_entry = entry.1;
           arguments = list_back OfTypes agree.types_back (words.types_of entry.0.label.arguments) type.0.inputs.items
               (words.types_of has.entry.label.arguments) has.type.inputs.items
-              (types_alike w x OfTypes OfValues entry.0.label.arguments has.entry.label.arguments entry.2.arguments)
+              (types_alike w x OfTypes OfValues OfBlocks entry.0.label.arguments has.entry.label.arguments entry.2.arguments)
               type.2.0 has.arguments;
         }
 
@@ -200,8 +200,8 @@ module _ {O B P C : Type 0} (w : World O B) (x : World P C) (OfTypes : TypeHandl
         let b = in_kind ops.Func a is in
         let kept = keeps b.0 b.1 in (
           ap words.is_instruction same_kind ∙ kept.0,
-          none_left (AreAlike w x OfTypes OfValues Blocks) (region_list s.op.regions) (region_list z.op.regions)
-              (listed_regions w x OfTypes OfValues s.op.regions z.op.regions h.trees.inside) kept.1,
+          none_left (AreAlike w x OfTypes OfValues OfBlocks Blocks) (region_list s.op.regions) (region_list z.op.regions)
+              (listed_regions w x OfTypes OfValues OfBlocks s.op.regions z.op.regions h.trees.inside) kept.1,
         )
 
     -- ---- 5
@@ -210,29 +210,29 @@ module _ {O B P C : Type 0} (w : World O B) (x : World P C) (OfTypes : TypeHandl
     values_are_integers keeps = record {
       results = every_back OfTypes (words.IsValueType w) (words.IsValueType x) value_back
           (words.types_of s.op.head.results) (words.types_of z.op.head.results)
-          (types_alike w x OfTypes OfValues s.op.head.results z.op.head.results h.trees.heads.results) keeps.results;
-      arguments = every_back (AreBodies w x OfTypes OfValues)
+          (types_alike w x OfTypes OfValues OfBlocks s.op.head.results z.op.head.results h.trees.heads.results) keeps.results;
+      arguments = every_back (AreBodies w x OfTypes OfValues OfBlocks)
           (λ (b : Body O B). words.Every (words.IsValueType w) (words.types_of b.label.arguments))
           (λ (b : Body P C). words.Every (words.IsValueType x) (words.types_of b.label.arguments))
           (λ b d k. every_back OfTypes (words.IsValueType w) (words.IsValueType x) value_back
           (words.types_of b.label.arguments) (words.types_of d.label.arguments)
-          (types_alike w x OfTypes OfValues b.label.arguments d.label.arguments k.arguments))
-          (words.bodies_of s.op) (words.bodies_of z.op) (bodies_alike w x OfTypes OfValues s.op z.op h.trees)
+          (types_alike w x OfTypes OfValues OfBlocks b.label.arguments d.label.arguments k.arguments))
+          (words.bodies_of s.op) (words.bodies_of z.op) (bodies_alike w x OfTypes OfValues OfBlocks s.op z.op h.trees)
           keeps.arguments;
     }
 
     -- ---- 6
 
-    ends : (a : Around O B) (b : Around P C) → AreAround w x OfTypes OfValues a b
+    ends : (a : Around O B) (b : Around P C) → AreAround w x OfTypes OfValues OfBlocks a b
         → (words.is_terminator (words.kind_of x z.op) ≡ true) ↔ (b.index + 1 ≡ length
         (operation_list b.body.operations))
         → (words.is_terminator (words.kind_of w s.op) ≡ true) ↔ (a.index + 1 ≡ length
         (operation_list a.body.operations))
     ends a b around is =
         let many : length (operation_list a.body.operations) ≡ length (operation_list b.body.operations) =
-        same_length (AreTrees w x OfTypes OfValues) (operation_list a.body.operations)
+        same_length (AreTrees w x OfTypes OfValues OfBlocks) (operation_list a.body.operations)
         (operation_list b.body.operations)
-        (listed_operations w x OfTypes OfValues a.body.operations b.body.operations around.bodies.listed) in (
+        (listed_operations w x OfTypes OfValues OfBlocks a.body.operations b.body.operations around.bodies.listed) in (
           λ t. ap (λ n. n + 1) around.indices ∙ is.0 (ap words.is_terminator (sym same_kind) ∙ t) ∙ sym many,
           λ e. ap words.is_terminator same_kind ∙ is.1 (ap (λ n. n + 1) (sym around.indices) ∙ e ∙ many),
         )
@@ -240,10 +240,10 @@ module _ {O B P C : Type 0} (w : World O B) (x : World P C) (OfTypes : TypeHandl
     blocks_end : rules.BlocksEnd x z → rules.BlocksEnd w s
     blocks_end keeps = record {
       last = λ a is. let b = in_kind ops.Func a is in ends a b.0 b.2 (keeps.last b.0 b.1);
-      none_empty = λ is. every_back (AreBodies w x OfTypes OfValues)
+      none_empty = λ is. every_back (AreBodies w x OfTypes OfValues OfBlocks)
           (λ (b : Body O B). operation_list b.operations ≢ []) (λ (b : Body P C). operation_list b.operations ≢ [])
           (λ b d k some none. some (none_right b d k none))
-          (words.bodies_of s.op) (words.bodies_of z.op) (bodies_alike w x OfTypes OfValues s.op z.op h.trees)
+          (words.bodies_of s.op) (words.bodies_of z.op) (bodies_alike w x OfTypes OfValues OfBlocks s.op z.op h.trees)
           (keeps.none_empty (sym same_kind ∙ is));
     }
       where
@@ -252,16 +252,16 @@ module _ {O B P C : Type 0} (w : World O B) (x : World P C) (OfTypes : TypeHandl
         right R [] (y ∷ ys) k e = absurd k
         right R (v ∷ xs) (y ∷ ys) k e = cc
 
-        none_right : (b : Body O B) (d : Body P C) → AreBodies w x OfTypes OfValues b d
+        none_right : (b : Body O B) (d : Body P C) → AreBodies w x OfTypes OfValues OfBlocks b d
             → operation_list b.operations ≡ []
             → operation_list d.operations ≡ []
-        none_right b d k none = right (AreTrees w x OfTypes OfValues) (operation_list b.operations)
-            (operation_list d.operations) (listed_operations w x OfTypes OfValues b.operations d.operations k.listed)
+        none_right b d k none = right (AreTrees w x OfTypes OfValues OfBlocks) (operation_list b.operations)
+            (operation_list d.operations) (listed_operations w x OfTypes OfValues OfBlocks b.operations d.operations k.listed)
             none
 
     -- ---- 7
 
-    untyped : (vs us : List Value) → Pairs (AreTypedAlike w x OfTypes OfValues) vs us → Pairs OfValues vs us
+    untyped : (vs us : List Value) → Pairs (AreTypedAlike w x OfTypes OfValues OfBlocks) vs us → Pairs OfValues vs us
     untyped [] [] k = tt
     untyped [] (u ∷ us) k = absurd k
     untyped (v ∷ vs) [] k = absurd k
@@ -272,7 +272,7 @@ module _ {O B P C : Type 0} (w : World O B) (x : World P C) (OfTypes : TypeHandl
       inside = λ a is. let b = around_beside a is in
           every_back OfValues (Lists (words.visible a)) (Lists (words.visible b.0))
           (λ v u k at. member_back OfValues agree.values_back (words.visible a) (words.visible b.0) v u
-          (untyped (words.visible a) (words.visible b.0) (visible_alike w x OfTypes OfValues a b.0 b.2)) k at)
+          (untyped (words.visible a) (words.visible b.0) (visible_alike w x OfTypes OfValues OfBlocks a b.0 b.2)) k at)
           s.op.head.operands z.op.head.operands
           h.trees.heads.operands (keeps.inside b.0 b.1);
       root = λ e. none_left OfValues s.op.head.operands z.op.head.operands h.trees.heads.operands
@@ -293,7 +293,7 @@ module _ {O B P C : Type 0} (w : World O B) (x : World P C) (OfTypes : TypeHandl
         no_operands (a ∷ ds) (c ∷ cs) k e = cc
 
         by : (o : Option (Around O B)) (p : Option (Around P C)) → s.around ≡ o → z.around ≡ p
-            → AreBoth (AreAround w x OfTypes OfValues) o p
+            → AreBoth (AreAround w x OfTypes OfValues OfBlocks) o p
             → Pairs (AreBoth OfTypes) (map w.value_type s.op.head.operands) (map x.value_type z.op.head.operands)
         by None None e f k =
             no_operands s.op.head.operands z.op.head.operands h.trees.heads.operands (seen.root f)
@@ -301,10 +301,22 @@ module _ {O B P C : Type 0} (w : World O B) (x : World P C) (OfTypes : TypeHandl
         by (Some a) None e f k = absurd k
         by (Some a) (Some b) e f k =
             operands_among (words.visible a) (words.visible b) s.op.head.operands z.op.head.operands
-            (visible_alike w x OfTypes OfValues a b k) h.trees.heads.operands (seen.inside b f)
+            (visible_alike w x OfTypes OfValues OfBlocks a b k) h.trees.heads.operands (seen.inside b f)
 
     result_types : Pairs OfTypes (words.types_of s.op.head.results) (words.types_of z.op.head.results)
-    result_types = types_alike w x OfTypes OfValues s.op.head.results z.op.head.results h.trees.heads.results
+    result_types = types_alike w x OfTypes OfValues OfBlocks s.op.head.results z.op.head.results h.trees.heads.results
+
+    -- the types of operands, without the lists of them
+    operands_typed : rules.OperandsAreVisible x z → Pairs TypesBeside s.op.head.operands z.op.head.operands
+    operands_typed seen =
+        pairs_unmapped (AreBoth OfTypes) w.value_type x.value_type s.op.head.operands z.op.head.operands (operand_types seen)
+
+    condition_back : rules.OperandsAreVisible x z → rules.HasCondition x z.op → rules.HasCondition w s.op
+    condition_back seen keeps v at =
+        let other = beside TypesBeside s.op.head.operands z.op.head.operands (operands_typed seen) 0 v at in
+        let has = keeps other.0 other.1 in
+        let type = some_first OfTypes (w.value_type v) (x.value_type other.0) has.0 other.2 has.1 in
+        (type.0, type.1, bit_back type.0 has.0 type.2 has.2)
 
     types_agree_as : rules.OperandsAreVisible x z → (k : KitOp) → words.kind_of w s.op ≡ k
         → rules.HasKindTypes x z.op k → rules.HasKindTypes w s.op k
@@ -322,7 +334,7 @@ module _ {O B P C : Type 0} (w : World O B) (x : World P C) (OfTypes : TypeHandl
       every_back OfTypes (words.IsBit w) (words.IsBit x) bit_back (words.types_of s.op.head.results)
           (words.types_of z.op.head.results) result_types keeps.1,
     )
-    types_agree_as seen ops.CondBr is keeps = absurd (unread ops.CondBr refl is)
+    types_agree_as seen ops.CondBr is keeps = condition_back seen keeps
     types_agree_as seen ops.Module is keeps = tt
     types_agree_as seen ops.Func is keeps = tt
     types_agree_as seen ops.Constant is keeps = tt
@@ -338,13 +350,60 @@ module _ {O B P C : Type 0} (w : World O B) (x : World P C) (OfTypes : TypeHandl
 
     -- ---- 9 and 10
 
-    edges_fit : rules.EdgesFit w s
-    edges_fit edge target at =
-        absurd (none-some target (ap (λ bs. slice_get bs edge) (sym h.trees.heads.successors) ∙ at))
+    -- the operands along an edge
+    along_beside : rules.OperandsAreVisible x z → (edge : ℕ) (k : KitOp) → words.kind_of w s.op ≡ k
+        → Pairs TypesBeside
+        (words.along_edge k (words.sizes_or_none (words.segment_sizes w s.op)) s.op.head.operands edge)
+        (words.along_edge k (words.sizes_or_none (words.segment_sizes x z.op)) z.op.head.operands edge)
+    along_beside seen edge ops.Br is = operands_typed seen
+    along_beside seen edge ops.CondBr is =
+        subst (λ o. Pairs TypesBeside
+        (words.segment s.op.head.operands (words.sizes_or_none (words.segment_sizes w s.op)) (suc edge))
+        (words.segment z.op.head.operands (words.sizes_or_none o) (suc edge))) (h.trees.heads.sizes is)
+        (pairs_segment TypesBeside s.op.head.operands z.op.head.operands
+        (words.sizes_or_none (words.segment_sizes w s.op)) (suc edge) (operands_typed seen))
+    along_beside seen edge ops.Module is = tt
+    along_beside seen edge ops.Func is = tt
+    along_beside seen edge ops.Constant is = tt
+    along_beside seen edge ops.ForwardRef is = tt
+    along_beside seen edge (ops.Arithmetic a) is = tt
+    along_beside seen edge (ops.Comparison a) is = tt
+    along_beside seen edge ops.Call is = tt
+    along_beside seen edge ops.Emit is = tt
+    along_beside seen edge ops.Return is = tt
+
+    -- an edge leads to the block beside the one to which the other leads
+    edges_fit : rules.OperandsAreVisible x z → rules.EdgesFit x z → rules.EdgesFit w s
+    edges_fit seen keeps edge target at =
+        let other = beside OfBlocks s.op.head.successors z.op.head.successors h.trees.heads.successors edge target at in
+        let has = keeps edge other.0 other.1 in
+        let leads = has.2 in
+        let here = some_first (AreAround w x OfTypes OfValues OfBlocks) s.around z.around has.0 h.surroundings has.1 in
+        let there = before (AreBodies w x OfTypes OfValues OfBlocks) (block_list here.0.blocks) (block_list has.0.blocks)
+        (listed_blocks w x OfTypes OfValues OfBlocks here.0.blocks has.0.blocks here.2.beside) leads.here.0 leads.body
+        leads.here.1 in (
+          here.0,
+          here.1,
+          record {
+            body = there.0;
+            here = (leads.here.0, there.1);
+            named = agree.blocks_back there.0.label.name target leads.body.label.name other.0 there.2.names other.2
+                leads.named;
+            operands = λ is. have_back _ _ (words.types_of there.0.label.arguments)
+                (words.types_of leads.body.label.arguments)
+                (pairs_mapped TypesBeside (AreBoth OfTypes) w.value_type x.value_type (λ v u k. k) _ _
+                (along_beside seen edge (words.kind_of w s.op) refl))
+                (types_alike w x OfTypes OfValues OfBlocks there.0.label.arguments leads.body.label.arguments
+                there.2.arguments)
+                (subst (λ k. words.is_branch k ≡ true → words.HaveTypes x
+                (words.along_edge k (words.sizes_or_none (words.segment_sizes x z.op)) z.op.head.operands edge)
+                (words.types_of leads.body.label.arguments)) (sym same_kind) leads.operands is);
+          },
+        )
 
     -- the function types that calls say
     callee_signatures : words.kind_of w s.op ≡ ops.Call
-        → AreBoth (AreSignatures w x OfTypes OfValues) (words.callee_signature w s.op) (words.callee_signature x z.op)
+        → AreBoth (AreSignatures w x OfTypes OfValues OfBlocks) (words.callee_signature w s.op) (words.callee_signature x z.op)
     callee_signatures is =
         function_back (words.callee_type w s.op) (words.callee_type x z.op) (h.trees.heads.callee_types is)
 
@@ -353,20 +412,20 @@ module _ {O B P C : Type 0} (w : World O B) (x : World P C) (OfTypes : TypeHandl
     calls_fit seen keeps is =
         let has = keeps (sym same_kind ∙ is) in
         let calls = has.2 in
-        let here = some_first (AreAround w x OfTypes OfValues) s.around z.around has.0 h.surroundings has.1 in
+        let here = some_first (AreAround w x OfTypes OfValues OfBlocks) s.around z.around has.0 h.surroundings has.1 in
         let a = here.0 in
-        let scope = some_first (AreTrees w x OfTypes OfValues) (words.first_module w (a.owner ∷ a.outer))
+        let scope = some_first (AreTrees w x OfTypes OfValues OfBlocks) (words.first_module w (a.owner ∷ a.outer))
         (words.first_module x (has.0.owner ∷ has.0.outer)) calls.scope
-        (modules_alike w x OfTypes OfValues (a.owner ∷ a.outer) (has.0.owner ∷ has.0.outer)
+        (modules_alike w x OfTypes OfValues OfBlocks (a.owner ∷ a.outer) (has.0.owner ∷ has.0.outer)
         (here.2.owners, here.2.outer)) calls.nearest in
-        let called = before (AreTrees w x OfTypes OfValues) (words.members_of scope.0) (words.members_of calls.scope)
-        (members_alike w x OfTypes OfValues scope.0 calls.scope scope.2) calls.member.0 calls.function calls.member.1 in
+        let called = before (AreTrees w x OfTypes OfValues OfBlocks) (words.members_of scope.0) (words.members_of calls.scope)
+        (members_alike w x OfTypes OfValues OfBlocks scope.0 calls.scope scope.2) calls.member.0 calls.function calls.member.1 in
         let is_function : words.kind_of w called.0 ≡ ops.Func = called.2.heads.kinds ∙ calls.is_function in
         let type = some_first OfTypes (words.callee_type w s.op) (words.callee_type x z.op) calls.type
         (h.trees.heads.callee_types is) calls.has_type in
         let own = some_first OfTypes (words.own_type w called.0) (words.own_type x calls.function) calls.type
         (called.2.heads.types is_function) calls.same_type in
-        let signature = some_first (AreSignatures w x OfTypes OfValues) (words.callee_signature w s.op)
+        let signature = some_first (AreSignatures w x OfTypes OfValues OfBlocks) (words.callee_signature w s.op)
         (words.callee_signature x z.op) calls.signature (callee_signatures is) calls.is_signature in (
           a,
           here.1,
@@ -397,7 +456,7 @@ module _ {O B P C : Type 0} (w : World O B) (x : World P C) (OfTypes : TypeHandl
     returns_fit : rules.OperandsAreVisible x z → rules.ReturnsFit x z → rules.ReturnsFit w s
     returns_fit seen keeps is a f inside signed =
         let b = in_kind ops.Func a inside in
-        let g = some_second (AreSignatures w x OfTypes OfValues) (words.signature w a.owner)
+        let g = some_second (AreSignatures w x OfTypes OfValues OfBlocks) (words.signature w a.owner)
         (words.signature x b.0.owner) f
         (function_back (words.own_type w a.owner) (words.own_type x b.0.owner) (b.2.owners.heads.types inside.1)) signed
         in
@@ -409,7 +468,7 @@ module _ {O B P C : Type 0} (w : World O B) (x : World P C) (OfTypes : TypeHandl
     constants_fit : rules.ConstantsFit x z → rules.ConstantsFit w s
     constants_fit keeps is =
         let has = keeps (sym same_kind ∙ is) in
-        let v = some_first (AreIntegers w x OfTypes OfValues) (words.constant_value w s.op)
+        let v = some_first (AreIntegers w x OfTypes OfValues OfBlocks) (words.constant_value w s.op)
         (words.constant_value x z.op) has.value (h.trees.heads.constants is) has.has_value in
         record {
           value = v.0;
@@ -428,10 +487,10 @@ module _ {O B P C : Type 0} (w : World O B) (x : World P C) (OfTypes : TypeHandl
     attributes_are_known keeps = record {
       no_forward_ref = λ is. keeps.no_forward_ref (sym same_kind ∙ is);
       own = h.trees.heads.own;
-      blocks = every_back (AreBodies w x OfTypes OfValues)
+      blocks = every_back (AreBodies w x OfTypes OfValues OfBlocks)
           (λ (b : Body O B). words.Every rules.IsCommon (w.block_attributes b.label.content))
           (λ (d : Body P C). Unit {0}) (λ b d alike u. alike.known) (words.bodies_of s.op) (words.bodies_of z.op)
-          (bodies_alike w x OfTypes OfValues s.op z.op h.trees) (λ k d at. tt);
+          (bodies_alike w x OfTypes OfValues OfBlocks s.op z.op h.trees) (λ k d at. tt);
     }
 
     -- ---- 14
@@ -439,9 +498,10 @@ module _ {O B P C : Type 0} (w : World O B) (x : World P C) (OfTypes : TypeHandl
     counts_back : (r n g : ℕ) → rules.Counts z.op r n g → rules.Counts s.op r n g
     counts_back r n g has = record {
       results = same_length _ s.op.head.results z.op.head.results h.trees.heads.results ∙ has.results;
-      successors = ap length h.trees.heads.successors ∙ sym (ap length h.trees.heads.no_successors) ∙ has.successors;
-      regions = same_length (AreAlike w x OfTypes OfValues Blocks) (region_list s.op.regions) (region_list z.op.regions)
-          (listed_regions w x OfTypes OfValues s.op.regions z.op.regions h.trees.inside) ∙ has.regions;
+      successors = same_length OfBlocks s.op.head.successors z.op.head.successors h.trees.heads.successors
+          ∙ has.successors;
+      regions = same_length (AreAlike w x OfTypes OfValues OfBlocks Blocks) (region_list s.op.regions) (region_list z.op.regions)
+          (listed_regions w x OfTypes OfValues OfBlocks s.op.regions z.op.regions h.trees.inside) ∙ has.regions;
     }
 
     operands_back : (n : ℕ) → rules.HasOperands z.op n → rules.HasOperands s.op n
@@ -465,10 +525,14 @@ module _ {O B P C : Type 0} (w : World O B) (x : World P C) (OfTypes : TypeHandl
     fits_as ops.ForwardRef is keeps = (counts_back 1 0 0 keeps.0, operands_back 0 keeps.1)
     fits_as (ops.Arithmetic a) is keeps = (counts_back 1 0 0 keeps.0, operands_back 2 keeps.1)
     fits_as (ops.Comparison a) is keeps = (counts_back 1 0 0 keeps.0, operands_back 2 keeps.1)
-    fits_as ops.Br is keeps = absurd (unread ops.Br refl is)
-    fits_as ops.CondBr is keeps = absurd (unread ops.CondBr refl is)
+    fits_as ops.Br is keeps = counts_back 0 1 0 keeps
+    fits_as ops.CondBr is keeps =
+        let sizes = keeps.1 in (
+          counts_back 0 2 0 keeps.0,
+          (sizes.0, h.trees.heads.sizes is ∙ sizes.1, (sizes.2.0, sizes.2.1, sizes.2.2, operands_back _ sizes.2.3)),
+        )
     fits_as ops.Call is keeps =
-        let signature = some_first (AreSignatures w x OfTypes OfValues) (words.callee_signature w s.op)
+        let signature = some_first (AreSignatures w x OfTypes OfValues OfBlocks) (words.callee_signature w s.op)
         (words.callee_signature x z.op) keeps.signature (callee_signatures is) keeps.is_signature in
         let f = signature.0 in
         let g = keeps.signature in
@@ -493,7 +557,7 @@ module _ {O B P C : Type 0} (w : World O B) (x : World P C) (OfTypes : TypeHandl
     fits_format : rules.FitsFormat x z → rules.FitsFormat w s
     fits_format keeps = fits_as (words.kind_of w s.op) refl (subst (rules.FitsKind x z.op) (sym same_kind) keeps)
 
-  pub keeps_back : (r : Rule) (s : Site O B) (z : Site P C) → AreSitesAlike w x OfTypes OfValues s z
+  pub keeps_back : (r : Rule) (s : Site O B) (z : Site P C) → AreSitesAlike w x OfTypes OfValues OfBlocks s z
       → (AreVisibleFirst r → rules.OperandsAreVisible x z) → Keeps x r z → Keeps w r s
   keeps_back rule.RootIsModule s z h seen keeps = root_is_module s z h keeps
   keeps_back rule.ModuleHolds s z h seen keeps = module_holds s z h keeps
@@ -503,7 +567,7 @@ module _ {O B P C : Type 0} (w : World O B) (x : World P C) (OfTypes : TypeHandl
   keeps_back rule.BlocksEnd s z h seen keeps = blocks_end s z h keeps
   keeps_back rule.OperandsAreVisible s z h seen keeps = operands_are_visible s z h keeps
   keeps_back rule.TypesAgree s z h seen keeps = types_agree s z h (seen tt) keeps
-  keeps_back rule.EdgesFit s z h seen keeps = edges_fit s z h
+  keeps_back rule.EdgesFit s z h seen keeps = edges_fit s z h (seen tt) keeps
   keeps_back rule.CallsFit s z h seen keeps = calls_fit s z h (seen tt) keeps
   keeps_back rule.ReturnsFit s z h seen keeps = returns_fit s z h (seen tt) keeps
   keeps_back rule.ConstantsFit s z h seen keeps = constants_fit s z h keeps

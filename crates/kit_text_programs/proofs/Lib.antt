@@ -2,6 +2,7 @@ pub mod SaidPrograms
 pub mod ValueNumbers
 pub mod SaidHeads
 pub mod Unlabelled
+pub mod BlockNumbers
 pub mod SaidFunctions
 pub mod SaidModules
 pub mod AlikeLists

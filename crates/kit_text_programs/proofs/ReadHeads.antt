@@ -2,7 +2,8 @@
 use Rattle.std.proofs.Common.{◌≡◌, inl, inr, ℕ, zero, suc, Bool, true, false, cond, ◌&&◌, List, [], ◌∷◌, length}
 use Rattle.std.proofs.Common.{Option, Some, None}
 use Rattle.std.proofs.Common.{option_and_then, refl, sym, ap, ◌∙◌, subst, arith, ◌^◌, ⊎_elim}
-use Rattle.std.specs.Prelude.{◌==◌, nat_lt, bytes_eq}
+use Rattle.std.specs.Prelude.{Vec, ◌==◌, ◌+◌, nat_lt, bytes_eq, slice_index}
+use Rattle.std.specs.Global.{Global}
 use Rattle.std.proofs.lemmas.Bool.{false≢true}
 use Rattle.std.proofs.lemmas.Bool.Decides.{Decides-eqb}
 use Rattle.std.proofs.lemmas.Option.{none-some, same_Some, some_pair_parts}
@@ -12,32 +13,32 @@ use Rattle.ir_names.specs.Dictionary.{attribute_at}
 use Rattle.ir_names.specs.Identifier.{text_of}
 use Rattle.ir_names.specs.Tree.{LabelledTree, Trees, node, no_tree, a_tree}
 use Rattle.ir_print.specs.Pieces.{width, attribute_of_kind, ValueTree, Pieces}
-use Rattle.ir_print.specs.Shown.{Said, said_type, said_attribute, said_name, said_number, said_operands, said_region, said_width}
+use Rattle.ir_print.specs.Shown.{Said, said_type, said_attribute, said_name, said_number, said_operands, said_successor, said_region, said_width}
 use Rattle.ir_print.specs.Shown.{leaf, ShowsAll, ShowsType}
 use Rattle.kit_ops.specs.declared.attributes.IntegerAttr.{IntegerAttr}
 use Rattle.kit_ops.specs.declared.attributes.KitAttr.{KitAttr}
 use Rattle.kit_ops.specs.declared.attributes.KitAttr.TheVariants as attrs
 use Rattle.kit_ops.specs.declared.attributes.keys.TheConstants.{SYMBOL_NAME, FUNCTION_TYPE, CONSTANT_VALUE}
-use Rattle.kit_ops.specs.declared.attributes.keys.TheConstants.{CALLEE, CALLEE_TYPE}
+use Rattle.kit_ops.specs.declared.attributes.keys.TheConstants.{CALLEE, CALLEE_TYPE, SEGMENT_SIZES}
 use Rattle.kit_ops.specs.declared.kinds.KitOp.{KitOp}
 use Rattle.kit_ops.specs.declared.kinds.KitOp.TheVariants as ops
 use Rattle.kit_ops.specs.declared.types.IntegerType.{IntegerType}
 use Rattle.kit_ops.specs.declared.types.KitType.{KitType}
-use Rattle.kit_ops.specs.Keys.{symbol_name, function_type, constant_value, callee, callee_type}
-use Rattle.kit.specs.Meaning.{is_function}
+use Rattle.kit_ops.specs.Keys.{symbol_name, function_type, constant_value, callee, callee_type, segment_sizes}
+use Rattle.kit.specs.Meaning.{is_function, first_size, sizes_in as sizes_of}
 use Rattle.kit_checks.specs.Rules.{IsOwnKey, MayHave}
-use Rattle.kit_checks.specs.Words.{Every, identifier_in, type_in}
+use Rattle.kit_checks.specs.Words.{Every, identifier_in, is_cond_br, sizes_in, type_in}
 use Rattle.kit.specs.Forms.{OpForm, NamedRegion, TypedRegion, Value, TwoOperands, OneOperand, AnyOperands}
-use Rattle.kit.specs.Forms.{Empty, Called, form_of}
+use Rattle.kit.specs.Forms.{Empty, Called, Edge, ConditionEdges, form_of}
 use Rattle.kit.specs.Numbers.{printed_number}
 use Rattle.kit.specs.Says.{says, one, two, only, has_values, integer_said, said_of_attribute, said_of_module}
 use Rattle.kit.specs.Says.{said_of_function}
-use Rattle.kit.specs.Says.{said_of_constant, said_of_pair, said_of_call, call_said, said_in}
-use Rattle.kit.specs.Readable.{constant_says, call_says}
+use Rattle.kit.specs.Says.{said_of_constant, said_of_pair, said_of_call, call_said, condition_said, said_of_condition, said_in}
+use Rattle.kit.specs.Readable.{constant_says, call_says, condition_says}
 use Rattle.kit.specs.Seen.{first_seen, one_seen, two_seen, three_seen}
 use Rattle.kit_views.specs.Reading.{number_in}
 use Rattle.kit_text_programs.proofs.SaidHeads.{said_parts, bits_shown}
-use Rattle.kit_text_programs.proofs.SaidPrograms.{name_said, bits_said}
+use Rattle.kit_text_programs.proofs.SaidPrograms.{name_said, bits_said, sizes_read}
 use Rattle.kit_text_programs.proofs.SaidTexts.AttributeMaps.{either_key, two_at}
 
 abbrev pub Entries : Type 0
@@ -151,6 +152,15 @@ pub record IsRead (keys : List KitType) (k : KitOp) (es : Entries) (tys : List T
   pub called : k ≡ ops.Call → (ty : TypeHandle) × (t : ValueTree) × ShowsType says keys ty t × (callee_read ps ≡ Some t)
       × (option_and_then type_in (attribute_at es CALLEE_TYPE.now) ≡ Some ty)
       × (option_and_then identifier_in (attribute_at es CALLEE.now) ≡ Some (name_said ps))
+  pub sizes : k ≡ ops.CondBr → option_and_then sizes_in (attribute_at es SEGMENT_SIZES.now) ≡ sizes_read ps
+
+-- the pieces of a conditional branch tell what its edges hand on
+pub edges_shown : (keys : List KitType) (a b : ℕ) (ps : Pieces) → ShowsAll says keys (condition_said a b) ps
+    → sizes_read ps ≡ Some (1 ∷ a ∷ b ∷ [])
+edges_shown keys a b ps h =
+    let k = three_seen says keys (leaf (said_operands 1)) (leaf (said_successor a)) (leaf (said_successor b)) ps h in
+    ap sizes_read (k.3
+    ∙ (λ i. a_tree (k.4.1 i) (a_tree (k.5.1 i) (a_tree (k.6.1 i) no_tree))))
 
 module _ (keys : List KitType) (es : Entries) (n : ℕ) (tys : List TypeHandle) (kind : ℕ) (said : SaidTrees)
     (ps : Pieces)
@@ -169,9 +179,9 @@ module _ (keys : List KitType) (es : Entries) (n : ℕ) (tys : List TypeHandle) 
       ap Some (sym (ap name_said k.2 ∙ ap (λ (t : ValueTree). name_said (a_tree t k.1)) k.3.1))
 
   -- an operation without attributes
-  bare : (k : KitOp) → is_function k ≡ false → is_constant k ≡ false → is_call k ≡ false → None ≡ name_read k ps
-      → (length es == 0) ≡ true → IsRead keys k es tys ps
-  bare k f c g e none =
+  bare : (k : KitOp) → is_function k ≡ false → is_constant k ≡ false → is_call k ≡ false → is_cond_br k ≡ false
+      → None ≡ name_read k ps → (length es == 0) ≡ true → IsRead keys k es tys ps
+  bare k f c g d e none =
       let empty = no_entries es none in
       record {
         names = ap (λ (x : Entries). option_and_then identifier_in (attribute_at x SYMBOL_NAME.now)) empty ∙ e;
@@ -179,6 +189,7 @@ module _ (keys : List KitType) (es : Entries) (n : ℕ) (tys : List TypeHandle) 
         valued = λ is. absurd (false≢true (sym c ∙ ap is_constant is));
         own = subst (Every (MayHave k)) (sym empty) (none_every (MayHave k));
         called = λ is. absurd (false≢true (sym g ∙ ap is_call is));
+        sizes = λ is. absurd (false≢true (sym d ∙ ap is_cond_br is));
       }
 
   module_read : (o : Option KitAttr) → attribute_at es symbol_name ≡ o → (length es == 1) ≡ true
@@ -195,6 +206,7 @@ module _ (keys : List KitType) (es : Entries) (n : ℕ) (tys : List TypeHandle) 
             (front_every (MayHave ops.Module) (symbol_name, attrs.Identifier id) [] (inl refl)
             (none_every (MayHave ops.Module)));
         called = λ is. absurd (false≢true (ap is_call is));
+        sizes = λ is. absurd (false≢true (ap is_cond_br is));
       }
   module_read (Some (attrs.Integer a)) at l e = absurd (none-some said e)
   module_read (Some (attrs.«Type» a)) at l e = absurd (none-some said e)
@@ -226,6 +238,7 @@ module _ (keys : List KitType) (es : Entries) (n : ℕ) (tys : List TypeHandle) 
         own = two_own ops.Func symbol_name function_type (inl refl) (inr refl) function_keys es (attrs.Identifier id)
             (attrs.«Type» ty) l at there;
         called = λ is. absurd (false≢true (ap is_call is));
+        sizes = λ is. absurd (false≢true (ap is_cond_br is));
       }
   typed_read None p at there l e = absurd (none-some said e)
   typed_read (Some (attrs.Integer a)) p at there l e = absurd (none-some said e)
@@ -294,6 +307,7 @@ module _ (keys : List KitType) (es : Entries) (n : ℕ) (tys : List TypeHandle) 
             (front_every (MayHave ops.Constant) (constant_value, attrs.Integer is.value) [] (inl refl)
             (none_every (MayHave ops.Constant)));
         called = λ f. absurd (false≢true (ap is_call f));
+        sizes = λ f. absurd (false≢true (ap is_cond_br f));
       }
 
   -- ---- calls
@@ -329,6 +343,28 @@ module _ (keys : List KitType) (es : Entries) (n : ℕ) (tys : List TypeHandle) 
           ap (option_and_then identifier_in) call.has_name
               ∙ name_first (text_of call.name) (two (leaf (said_operands n)) (leaf (said_type call.type))) all,
         );
+        sizes = λ is. absurd (false≢true (ap is_cond_br is));
+      }
+
+  -- ---- conditional branches
+
+  condition_read : (length es == 1) ≡ true → said_of_condition (attribute_at es segment_sizes) n ≡ Some said
+      → IsRead keys ops.CondBr es tys ps
+  condition_read l e =
+      let condition = condition_says (attribute_at es segment_sizes) n said e in
+      let sizes = condition.say in
+      let all = subst (λ (z : SaidTrees). ShowsAll says keys z ps) (sym sizes.says_it) shown in
+      let entries = one_entry es segment_sizes (attrs.SegmentSizes condition.sizes) l condition.has_sizes in
+      record {
+        names = ap (λ (x : Entries). option_and_then identifier_in (attribute_at x SYMBOL_NAME.now)) entries;
+        types = λ is. absurd (false≢true (ap is_function is));
+        valued = λ is. absurd (false≢true (ap is_constant is));
+        own = subst (Every (MayHave ops.CondBr)) (sym entries)
+            (front_every (MayHave ops.CondBr) (segment_sizes, attrs.SegmentSizes condition.sizes) [] (inl refl)
+            (none_every (MayHave ops.CondBr)));
+        called = λ is. absurd (false≢true (ap is_call is));
+        sizes = λ is. ap (option_and_then sizes_in) condition.has_sizes ∙ ap Some sizes.are
+            ∙ sym (edges_shown keys sizes.first sizes.second ps all);
       }
 
   -- what an operation says tells this of its attributes
@@ -351,25 +387,60 @@ module _ (keys : List KitType) (es : Entries) (n : ℕ) (tys : List TypeHandle) 
   read (ops.Arithmetic a) e =
       let kept = only_some (length es == 0 && n == 2) (said_of_pair tys) said (said_as
       (ops.Arithmetic a) TwoOperands e refl) in
-      bare (ops.Arithmetic a) refl refl refl refl (and_left (length es == 0) (n == 2) kept.0)
+      bare (ops.Arithmetic a) refl refl refl refl refl (and_left (length es == 0) (n == 2) kept.0)
   read (ops.Comparison a) e =
       let kept = only_some (length es == 0 && n == 2) (said_of_pair tys) said (said_as
       (ops.Comparison a) TwoOperands e refl) in
-      bare (ops.Comparison a) refl refl refl refl (and_left (length es == 0) (n == 2) kept.0)
+      bare (ops.Comparison a) refl refl refl refl refl (and_left (length es == 0) (n == 2) kept.0)
   read ops.Emit e =
       let kept = only_some (length es == 0 && n == 1) _ said (said_as ops.Emit OneOperand e refl) in
-      bare ops.Emit refl refl refl refl (and_left (length es == 0) (n == 1) kept.0)
+      bare ops.Emit refl refl refl refl refl (and_left (length es == 0) (n == 1) kept.0)
   read ops.Return e =
       let kept = only_some (length es == 0) _ said (said_as ops.Return AnyOperands e refl) in
-      bare ops.Return refl refl refl refl kept.0
-  read ops.Br e = absurd (none-some (said_parts ops.Br es n tys kind said e).0
-      (said_parts ops.Br es n tys kind said e).1)
-  read ops.CondBr e = absurd (none-some (said_parts ops.CondBr es n tys kind said e).0
-      (said_parts ops.CondBr es n tys kind said e).1)
+      bare ops.Return refl refl refl refl refl kept.0
+  read ops.Br e =
+      let kept = only_some (length es == 0) _ said (said_as ops.Br Edge e refl) in
+      bare ops.Br refl refl refl refl refl kept.0
+  read ops.CondBr e =
+      let kept = only_some (length es == 1) (said_of_condition (attribute_at es segment_sizes) n) said
+      (said_as ops.CondBr ConditionEdges e refl) in
+      condition_read kept.0 kept.1
   read ops.Call e =
       let kept = only_some (length es == 2) (said_of_call (attribute_at es callee) (attribute_at es callee_type) n) said
       (said_as ops.Call Called e refl) in
       call_read kept.0 kept.1
   read ops.ForwardRef e =
       let kept = only_some (length es == 0 && n == 0) _ said (said_as ops.ForwardRef Empty e refl) in
-      bare ops.ForwardRef refl refl refl refl (and_left (length es == 0) (n == 0) kept.0)
+      bare ops.ForwardRef refl refl refl refl refl (and_left (length es == 0) (n == 0) kept.0)
+
+-- a conditional branch has sizes of three segments, which its pieces tell, and as many operands as they add up to
+pub record HasShownSizes (es : Entries) (n : ℕ) (ps : Pieces) : Type 0 where
+  pub sizes : Vec ℕ Global
+  pub first : ℕ
+  pub second : ℕ
+  pub has : attribute_at es segment_sizes ≡ Some (attrs.SegmentSizes sizes)
+  pub are : sizes.items ≡ 1 ∷ first ∷ second ∷ []
+  pub first_is : first_size es ≡ first
+  pub told : sizes_read ps ≡ Some (1 ∷ first ∷ second ∷ [])
+  pub adds_up : 1 + (first + second) ≡ n
+
+pub sizes_shown : (keys : List KitType) (k : KitOp) (es : Entries) (n : ℕ) (tys : List TypeHandle) (kind : ℕ)
+    (said : SaidTrees) (ps : Pieces) → says.of_operation k es n tys ≡ Some (kind, said) → ShowsAll says keys said ps
+    → k ≡ ops.CondBr → HasShownSizes es n ps
+sizes_shown keys k es n tys kind said ps e h is =
+    let parts = said_parts k es n tys kind said e in
+    let form : parts.0 ≡ ConditionEdges = same_Some parts.0 ConditionEdges (sym parts.1 ∙ ap form_of is) in
+    let kept = only_some (length es == 1) (said_of_condition (attribute_at es segment_sizes) n) said
+    (subst (λ f. said_in f es n tys ≡ Some said) form parts.3) in
+    let condition = condition_says (attribute_at es segment_sizes) n said kept.1 in
+    let say = condition.say in
+    record {
+      sizes = condition.sizes;
+      first = say.first;
+      second = say.second;
+      has = condition.has_sizes;
+      are = say.are;
+      first_is = ap (λ o. slice_index (sizes_of o) 1) condition.has_sizes ∙ ap (λ zs. slice_index zs 1) say.are;
+      told = edges_shown keys say.first say.second ps (subst (λ (z : SaidTrees). ShowsAll says keys z ps) (sym say.says_it) h);
+      adds_up = say.adds_up;
+    }

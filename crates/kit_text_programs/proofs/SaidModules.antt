@@ -3,6 +3,8 @@ use Rattle.std.proofs.Common.{◌≡◌, ℕ, Bool, true, false, List, [], ◌�
 use Rattle.std.specs.Prelude.{nat_eq, reverse, option_and_then, if◌then◌else◌}
 use Rattle.ir_print.specs.Pieces.{ValueTree, Pieces, operation, a_region, block, Entity, entity, Entities, no_entity}
 use Rattle.ir_print.specs.Pieces.{an_entity}
+use Rattle.ir_forest.specs.Closed.{blocks_among}
+use Rattle.ir_print.specs.Shown.{Pairs}
 use Rattle.ir_program.specs.Program.{OperationView}
 use Rattle.ir_program.specs.declared.handles.Ptr.{Ptr}
 use Rattle.ir_program.specs.declared.handles.Operation.{Operation}
@@ -10,13 +12,14 @@ use Rattle.ir_program.specs.declared.handles.Region.{Region}
 use Rattle.ir_program.specs.declared.handles.BasicBlock.{BasicBlock}
 use Rattle.ir_program.specs.declared.handles.Value.{Value}
 use Rattle.ir_program.specs.Replacing.{same_value}
+use Rattle.ir_trees.specs.Searched.{AreDistinct}
 use Rattle.ir_trees.specs.Stands.{by_handle, head_of, AreTree, no_operations, no_blocks, no_regions, first_operation}
 use Rattle.ir_trees.specs.Stands.{first_block, first_region, StandsFor}
 use Rattle.ir_trees.specs.Trees.{Operations, Blocks, Regions, end, region}
 use Rattle.ir_types.specs.Interned.{key_at}
 use Rattle.text_dialect.specs.Seen.{SeenOperation, SeenBlock, seen, seen_operation}
 use Rattle.text_dialect.specs.Standing.{HasHead, HasTree, HaveRegionTrees, HaveBlockTrees, HaveTrees}
-use Rattle.text_rereading.specs.Rereading.{Named}
+use Rattle.text_rereading.specs.Rereading.{Numbering, Named}
 use Rattle.kit.specs.Meaning.{KitOperation, is_function, is_module}
 use Rattle.kit_ops.specs.declared.attributes.KitAttr.{KitAttr}
 use Rattle.kit_ops.specs.declared.kinds.KitOp.{KitOp}
@@ -36,21 +39,21 @@ use Rattle.kit_text_programs.proofs.SaidPrograms.{is_called, locate_said, placed
 use Rattle.kit_text_programs.proofs.ValueNumbers.{number_of_value, HasNumber, numbers_apart}
 use Rattle.kit_text_programs.proofs.SaidHeads.{function_called, module_called}
 use Rattle.kit_text_programs.proofs.SaidFunctions.{KitPart, same_operation, same_label, same_region, all_named}
-use Rattle.kit_text_programs.proofs.SaidFunctions.{blocks_same}
+use Rattle.kit_text_programs.proofs.SaidFunctions.{blocks_same, ArePlaces}
 use Rattle.kit_text_programs.proofs.Unlabelled.{HasSomeLabel}
 
-module _ (s : WritableContext) (values : List Value) (own : HaveOwnNumbers values) (numbered : List ℕ → ℕ) where
+module _ (s : WritableContext) (numbering : Numbering) (own : HaveOwnNumbers numbering) (numbered : List ℕ → ℕ) where
   -- the regions are those that the text says
   record AreSaidRegions (x : KitPart Regions) (us : Entities ℕ) : Type 0 where
     handles : List (Ptr Region)
     tree : AreTree s.program Regions handles x
-    trees : HaveRegionTrees says (Named values) HasSomeLabel (seen s) handles us
+    trees : HaveRegionTrees says (Named numbering) HasSomeLabel (seen s) handles us
 
   -- and so are the operations
   record AreSaidOperations (x : KitPart Operations) (us : Entities ℕ) : Type 0 where
     members : List (Ptr Operation)
     tree : AreTree s.program Operations members x
-    trees : HaveTrees says (Named values) HasSomeLabel (seen s) members us
+    trees : HaveTrees says (Named numbering) HasSomeLabel (seen s) members us
 
   -- a tree is found where the text has one, with the regions that the text says
   abbrev AreFoundAlike : Option WritableTree → Option (Entities ℕ) → Type 0
@@ -65,40 +68,40 @@ module _ (s : WritableContext) (values : List Value) (own : HaveOwnNumbers value
   no_members = record { members = []; tree = no_operations; trees = tt }
 
   blocks_members : (bs : List (Ptr BasicBlock)) (x : KitPart Blocks) (ts : Entities ℕ) → AreTree s.program Blocks bs x
-      → HaveBlockTrees says (Named values) HasSomeLabel (seen s) bs ts
+      → HaveBlockTrees says (Named numbering) HasSomeLabel (seen s) bs ts
       → AreSaidOperations (members_in (region x end)) (first_inside ts)
   blocks_members [] x no_entity no_blocks h = no_members
   blocks_members [] x (an_entity t ts) no_blocks h = absurd h
   blocks_members (b ∷ bs) x no_entity (first_block _ _ v os rest there inner after) h = absurd h
-  blocks_members (b ∷ bs) x (an_entity (entity (block label arguments) us) ts)
+  blocks_members (b ∷ bs) x (an_entity (entity (block named label arguments) us) ts)
       (first_block _ _ v os rest there inner after) h =
       let here = h.0 in
-      let is = same_label s values own numbered b v here.0 there here.1 in
+      let is = same_label s numbering own numbered b v here.0 there here.1 in
       record {
         members = v.operations;
         tree = inner;
-        trees = subst (λ (o : SeenBlock). HaveTrees says (Named values) HasSomeLabel (seen s) o.operations us) (sym is)
-            here.4;
+        trees = subst (λ (o : SeenBlock). HaveTrees says (Named numbering) HasSomeLabel (seen s) o.operations us) (sym is)
+            here.5;
       }
-  blocks_members (b ∷ bs) x (an_entity (entity (operation kind results used pieces) us) ts)
+  blocks_members (b ∷ bs) x (an_entity (entity (operation kind results used successors pieces) us) ts)
       (first_block _ _ v os rest there inner after) h = absurd h.0
   blocks_members (b ∷ bs) x (an_entity (entity a_region us) ts)
       (first_block _ _ v os rest there inner after) h = absurd h.0
 
   regions_members : (rs : List (Ptr Region)) (x : KitPart Regions) (us : Entities ℕ) → AreTree s.program Regions rs x
-      → HaveRegionTrees says (Named values) HasSomeLabel (seen s) rs us
+      → HaveRegionTrees says (Named numbering) HasSomeLabel (seen s) rs us
       → AreSaidOperations (members_in x) (members_said us)
   regions_members [] x no_entity no_regions h = no_members
   regions_members [] x (an_entity t ts) no_regions h = absurd h
   regions_members (r ∷ rs) x no_entity (first_region _ _ v bs rest there inner after) h = absurd h
   regions_members (r ∷ rs) x (an_entity (entity a_region us) ts) (first_region _ _ v bs rest there inner after) h =
       let here = h.0 in
-      let is = same_region s values own numbered r v here.0 there here.1 in
+      let is = same_region s numbering own numbered r v here.0 there here.1 in
       blocks_members v.blocks bs us inner
-      (subst (λ ks. HaveBlockTrees says (Named values) HasSomeLabel (seen s) ks us) (sym is) here.2)
-  regions_members (r ∷ rs) x (an_entity (entity (operation kind results used pieces) us) ts)
+      (subst (λ ks. HaveBlockTrees says (Named numbering) HasSomeLabel (seen s) ks us) (sym is) here.2)
+  regions_members (r ∷ rs) x (an_entity (entity (operation kind results used successors pieces) us) ts)
       (first_region _ _ v bs rest there inner after) h = absurd h.0
-  regions_members (r ∷ rs) x (an_entity (entity (block label arguments) us) ts)
+  regions_members (r ∷ rs) x (an_entity (entity (block named label arguments) us) ts)
       (first_region _ _ v bs rest there inner after) h = absurd h.0
 
   members_alike : (x : KitPart Regions) (us : Entities ℕ) → AreSaidRegions x us
@@ -117,31 +120,31 @@ module _ (s : WritableContext) (values : List Value) (own : HaveOwnNumbers value
 
   -- a test of operations is one of what they say
   abbrev AreTestsAlike : (KitOperation → Bool) → (ℕ → Pieces → Bool) → Type 0
-  AreTestsAlike test said = (v : OperationView KitOperation) (kind : ℕ) (results : List (ℕ × ValueTree)) (used : List ℕ)
-      (pieces : Pieces) → HasHead says (Named values) s.types.keys (seen_operation v) kind results used pieces
+  AreTestsAlike test said = (v : OperationView KitOperation) (kind : ℕ) (results : List (ℕ × ValueTree)) (used successors : List ℕ)
+      (pieces : Pieces) → HasHead says (Named numbering) s.types.keys (seen_operation v) kind results used successors pieces
       → test v.payload ≡ said kind pieces
 
   module _ (test : KitOperation → Bool) (said : ℕ → Pieces → Bool) (alike : AreTestsAlike test said) where
     first_alike : (ps : List (Ptr Operation)) (x : KitPart Operations) (ts : Entities ℕ)
-        → AreTree s.program Operations ps x → HaveTrees says (Named values) HasSomeLabel (seen s) ps ts
+        → AreTree s.program Operations ps x → HaveTrees says (Named numbering) HasSomeLabel (seen s) ps ts
         → AreFoundAlike (first_with test x) (first_said said ts)
     first_alike [] x no_entity no_operations h = tt
     first_alike [] x (an_entity t ts) no_operations h = absurd h
     first_alike (p ∷ ps) x no_entity (first_operation _ _ v rs rest there inner after) h = absurd h
-    first_alike (p ∷ ps) x (an_entity (entity (operation kind results used pieces) us) ts)
+    first_alike (p ∷ ps) x (an_entity (entity (operation kind results used successors pieces) us) ts)
         (first_operation _ _ v rs rest there inner after) h =
         let here = h.0 in
-        let is : seen_operation v ≡ here.0 = same_operation s values own numbered p v here.0 there here.1 in
-        let head = subst (λ o. HasHead says (Named values) s.types.keys o kind results used pieces) (sym is) here.2 in
+        let is : seen_operation v ≡ here.0 = same_operation s numbering own numbered p v here.0 there here.1 in
+        let head = subst (λ o. HasHead says (Named numbering) s.types.keys o kind results used successors pieces) (sym is) here.2 in
         let trees =
-        subst (λ (o : SeenOperation KitOp KitAttr). HaveRegionTrees says (Named values) HasSomeLabel (seen s)
+        subst (λ (o : SeenOperation KitOp KitAttr). HaveRegionTrees says (Named numbering) HasSomeLabel (seen s)
         o.regions us) (sym is) here.3 in
         chosen_alike (test v.payload) (said kind pieces) (record { head = head_of p v; regions = rs }) us
-        (first_with test rest) (first_said said ts) (alike v kind results used pieces head)
+        (first_with test rest) (first_said said ts) (alike v kind results used successors pieces head)
         (record { handles = v.regions; tree = inner; trees = trees }) (first_alike ps rest ts after h.1)
     first_alike (p ∷ ps) x (an_entity (entity a_region us) ts)
         (first_operation _ _ v rs rest there inner after) h = absurd h.0
-    first_alike (p ∷ ps) x (an_entity (entity (block label arguments) us) ts)
+    first_alike (p ∷ ps) x (an_entity (entity (block named label arguments) us) ts)
         (first_operation _ _ v rs rest there inner after) h = absurd h.0
 
     found_alike : (x : KitPart Operations) (ts : Entities ℕ) → AreSaidOperations x ts
@@ -149,12 +152,12 @@ module _ (s : WritableContext) (values : List Value) (own : HaveOwnNumbers value
     found_alike x ts h = first_alike h.members x ts h.tree h.trees
 
   functions_alike : (x : ℕ) → AreTestsAlike (is_function_named numbered x) (is_called numbered is_function x)
-  functions_alike x v kind results used pieces h =
+  functions_alike x v kind results used successors pieces h =
       function_called s.types.keys numbered x v.payload.kind v.payload.notes.attributes _ _ kind h.said pieces
       h.says_it h.shown
 
   modules_alike : (x : ℕ) → AreTestsAlike (is_module_named numbered x) (is_called numbered is_module x)
-  modules_alike x v kind results used pieces h =
+  modules_alike x v kind results used successors pieces h =
       module_called s.types.keys numbered x v.payload.kind v.payload.notes.attributes _ _ kind h.said pieces h.says_it
       h.shown
 
@@ -189,27 +192,46 @@ module _ (s : WritableContext) (values : List Value) (own : HaveOwnNumbers value
   no_region : (blocks : KitPart Blocks) → ◌≡◌ {A = KitPart Regions} end (region blocks end) → ⊥
   no_region blocks e = cc
 
+  -- the blocks of a region have the numbers that are written
+  names_said : (bs : List (Ptr BasicBlock)) (x : KitPart Blocks) (ts : Entities ℕ) → AreTree s.program Blocks bs x
+      → HaveBlockTrees says (Named numbering) HasSomeLabel (seen s) bs ts
+      → Pairs (Named numbering).block (names_in x) (blocks_among ts)
+  names_said [] x no_entity no_blocks h = tt
+  names_said [] x (an_entity t ts) no_blocks h = absurd h
+  names_said (b ∷ bs) x no_entity (first_block _ _ v os rest there inner after) h = absurd h
+  names_said (b ∷ bs) x (an_entity (entity (block named label arguments) us) ts)
+      (first_block _ _ v os rest there inner after) h = (h.0.3, names_said bs rest ts after h.1)
+  names_said (b ∷ bs) x (an_entity (entity (operation kind results used successors pieces) us) ts)
+      (first_block _ _ v os rest there inner after) h = absurd h.0
+  names_said (b ∷ bs) x (an_entity (entity a_region us) ts) (first_block _ _ v os rest there inner after) h = absurd h.0
+
   -- the flat view of a function, its values named by their places
   module _ (blocks : KitPart Blocks) (f : Fun Value)
-      (are : AreFlatBlocks (kit_reading (key_at s.types) numbered) (names_in blocks) blocks f) where
+      (are : AreFlatBlocks (kit_reading (key_at s.types) numbered) (names_in blocks) blocks f)
+      (apart : AreDistinct (names_in blocks)) where
     function_placed : (rs : List (Ptr Region)) (x : KitPart Regions) (us : Entities ℕ) → AreTree s.program Regions rs x
-        → HaveRegionTrees says (Named values) HasSomeLabel (seen s) rs us → x ≡ region blocks end
+        → HaveRegionTrees says (Named numbering) HasSomeLabel (seen s) rs us → x ≡ region blocks end
         → place_fun same_value (Some f) ≡ place_fun nat_eq (Some (fun_said numbered (first_inside us)))
     function_placed [] x us no_regions h e = absurd (no_region blocks e)
     function_placed (r ∷ rs) x no_entity (first_region _ _ v bs rest there inner after) h e = absurd h
     function_placed (r ∷ rs) x (an_entity (entity a_region us) ts) (first_region _ _ v bs rest there inner after) h e =
         let here = h.0 in
-        let is = same_region s values own numbered r v here.0 there here.1 in
-        let trees = subst (λ ks. HaveBlockTrees says (Named values) HasSomeLabel (seen s) ks us) (sym is) here.2 in
+        let is = same_region s numbering own numbered r v here.0 there here.1 in
+        let trees = subst (λ ks. HaveBlockTrees says (Named numbering) HasSomeLabel (seen s) ks us) (sym is) here.2 in
         let tree = subst (AreTree s.program Blocks v.blocks) (blocks_one blocks bs rest e) inner in
-        let same = blocks_same s values own numbered (names_in blocks) v.blocks blocks us f tree trees are in
-        sym (placed_on same_value nat_eq (number_of_value values own) (HasNumber values own)
-        (λ a b n m. numbers_apart values own a b n m) (Some f)
-        (all_named s values own numbered (names_in blocks) f same.1))
+        let places : ArePlaces s numbering own numbered (names_in blocks) (blocks_among us) = record {
+          numbers = names_said v.blocks blocks us tree trees;
+          apart = apart;
+        } in
+        let same = blocks_same s numbering own numbered (names_in blocks) (blocks_among us) places v.blocks blocks us f tree
+        trees are in
+        sym (placed_on same_value nat_eq (number_of_value numbering own) (HasNumber numbering own)
+        (λ a b n m. numbers_apart numbering own a b n m) (Some f)
+        (all_named s numbering own numbered (names_in blocks) (blocks_among us) places f same.1))
         ∙ ap (λ (g : Fun ℕ). place_fun nat_eq (Some g)) same.0
-    function_placed (r ∷ rs) x (an_entity (entity (operation kind results used pieces) us) ts)
+    function_placed (r ∷ rs) x (an_entity (entity (operation kind results used successors pieces) us) ts)
         (first_region _ _ v bs rest there inner after) h e = absurd h.0
-    function_placed (r ∷ rs) x (an_entity (entity (block label arguments) us) ts)
+    function_placed (r ∷ rs) x (an_entity (entity (block named label arguments) us) ts)
         (first_region _ _ v bs rest there inner after) h e = absurd h.0
 
   function_said : (o : Option WritableTree) (x : Option (Entities ℕ)) (q : Option (Fun Place)) → AreFoundAlike o x
@@ -219,29 +241,29 @@ module _ (s : WritableContext) (values : List Value) (own : HaveOwnNumbers value
   function_said (Some u) None q h is = absurd h
   function_said (Some u) (Some us) q h is =
       let view = is.1.view in
-      is.2 ∙ function_placed view.blocks is.0 view.are h.handles u.regions us h.tree h.trees view.region
+      is.2 ∙ function_placed view.blocks is.0 view.are is.1.blocks h.handles u.regions us h.tree h.trees view.region
 
   -- ---- modules
 
   regions_so : (text : Entity ℕ) (root : Ptr Operation) (t : WritableTree)
-      → HasTree says (Named values) HasSomeLabel (seen s) root text → StandsFor s.program root t
+      → HasTree says (Named numbering) HasSomeLabel (seen s) root text → StandsFor s.program root t
       → AreSaidRegions t.regions (regions_below text)
-  regions_so (entity (operation kind results used pieces) us) root t h stands =
-      let is : seen_operation stands.view ≡ h.0 = same_operation s values own numbered root stands.view h.0
+  regions_so (entity (operation kind results used successors pieces) us) root t h stands =
+      let is : seen_operation stands.view ≡ h.0 = same_operation s numbering own numbered root stands.view h.0
       stands.there h.1 in
       record {
         handles = stands.view.regions;
         tree = stands.regions;
         trees = subst
-            (λ (o : SeenOperation KitOp KitAttr). HaveRegionTrees says (Named values) HasSomeLabel (seen s) o.regions
+            (λ (o : SeenOperation KitOp KitAttr). HaveRegionTrees says (Named numbering) HasSomeLabel (seen s) o.regions
             us) (sym is) h.3;
       }
   regions_so (entity a_region us) root t h stands = absurd h
-  regions_so (entity (block label arguments) us) root t h stands = absurd h
+  regions_so (entity (block named label arguments) us) root t h stands = absurd h
 
   -- the program is the one that the text says
   pub said_so : (root : Ptr Operation) (text : Entity ℕ) (t : WritableTree) (p : FunctionsByPath Place)
-      → HasTree says (Named values) HasSomeLabel (seen s) root text → StandsFor s.program root t
+      → HasTree says (Named numbering) HasSomeLabel (seen s) root text → StandsFor s.program root t
       → IsProgramOf {N = by_handle} same_value (key_at s.types) numbered t p
       → p ≡ program_said numbered (regions_below text)
   said_so root text t p h stands is = λ i path.

@@ -1,17 +1,19 @@
 -- The program that a tree of texts says, by the numbers of its definitions.
 use Rattle.std.proofs.Common.{ℕ, Bool, false, ◌&&◌, List, [], ◌∷◌, map, Option, Some, None, slice_get}
-use Rattle.std.specs.Prelude.{nat_eq, reverse, option_and_then, if◌then◌else◌}
+use Rattle.std.specs.Prelude.{nat_eq, reverse, option_and_then, unwrap_or, if◌then◌else◌}
+use Rattle.ir_forest.specs.Closed.{blocks_among}
 use Rattle.ir_names.specs.Tree.{node, a_tree}
-use Rattle.ir_print.specs.Pieces.{type_of_kind, attribute_of_kind, name, number, width, ValueTree, Pieces}
+use Rattle.ir_print.specs.Pieces.{type_of_kind, attribute_of_kind, operands, successor, name, number, width, ValueTree, Pieces}
 use Rattle.ir_print.specs.Pieces.{operation, a_region, block, Entity, entity, Entities, no_entity, an_entity}
 use Rattle.kit_ops.specs.declared.kinds.KitOp.{KitOp}
 use Rattle.kit_ops.specs.declared.kinds.KitOp.TheVariants as ops
 use Rattle.kit.specs.Meaning.{is_function, is_module}
 use Rattle.kit.specs.Forms.{read_ops}
 use Rattle.kit.specs.Numbers.{number_modulo}
+use Rattle.kit_checks.specs.Words.{segment, sizes_or_none}
 use Rattle.kit_behaviour.specs.Machine.{Calculated, Compared}
-use Rattle.kit_behaviour.specs.Machine.{Op, Const, Calc, Emit, Call, Return, Fun, FunctionsByPath}
-use Rattle.kit_behaviour.specs.Numbering.{place_fun}
+use Rattle.kit_behaviour.specs.Machine.{Edge, Plain, Nonzero, Op, Const, Calc, Emit, Call, Branch, Return, Fun, FunctionsByPath}
+use Rattle.kit_behaviour.specs.Numbering.{index_of, place_fun}
 use Rattle.kit_behaviour.specs.Places.{Place}
 
 -- the width of an integer type; 0 of any other
@@ -39,16 +41,33 @@ abbrev pub second_in : List ℕ → ℕ
 second_in [] = 0
 second_in (n ∷ ns) = first_in ns
 
--- the operation of a kind that defines and uses the values with these numbers, where names have numbers
-abbrev pub op_said : (List ℕ → ℕ) → Option KitOp → (defines widths uses : List ℕ) → Pieces → Op ℕ
-op_said numbered (Some ops.Constant) ds ws us ps = Const (first_in ds) (bits_said ps)
-op_said numbered (Some (ops.Arithmetic a)) ds ws us ps =
+-- the sizes of segments: of the condition, and of what each edge hands on
+abbrev pub sizes_read : Pieces → Option (List ℕ)
+sizes_read (a_tree (node (operands n) ns) (a_tree (node (successor a) ks) (a_tree (node (successor b) js) ps))) =
+    Some (n ∷ a ∷ b ∷ [])
+sizes_read _ = None
+
+abbrev pub sizes_said : Pieces → List ℕ
+sizes_said ps = sizes_or_none (sizes_read ps)
+
+-- an edge to the block at a place, which hands on the values with these numbers
+abbrev pub edge_said : ℕ → List ℕ → Edge ℕ
+edge_said place us = record { target = place; forwards = us }
+
+-- the operation of a kind that defines and uses the values with these numbers and goes on to the blocks at these places, where
+-- names have numbers
+abbrev pub op_said : (List ℕ → ℕ) → Option KitOp → (defines widths uses places : List ℕ) → Pieces → Op ℕ
+op_said numbered (Some ops.Constant) ds ws us bs ps = Const (first_in ds) (bits_said ps)
+op_said numbered (Some (ops.Arithmetic a)) ds ws us bs ps =
     Calc (Calculated a) (first_in ws) (first_in ds) (first_in us) (second_in us)
-op_said numbered (Some (ops.Comparison c)) ds ws us ps =
+op_said numbered (Some (ops.Comparison c)) ds ws us bs ps =
     Calc (Compared c) (first_in ws) (first_in ds) (first_in us) (second_in us)
-op_said numbered (Some ops.Emit) ds ws us ps = Emit (first_in us)
-op_said numbered (Some ops.Call) ds ws us ps = Call ds (numbered (name_said ps)) us
-op_said numbered _ ds ws us ps = Return us
+op_said numbered (Some ops.Emit) ds ws us bs ps = Emit (first_in us)
+op_said numbered (Some ops.Call) ds ws us bs ps = Call ds (numbered (name_said ps)) us
+op_said numbered (Some ops.Br) ds ws us bs ps = Branch Plain [] (edge_said (first_in bs) us) []
+op_said numbered (Some ops.CondBr) ds ws us bs ps = Branch Nonzero (segment us (sizes_said ps) 0)
+    (edge_said (first_in bs) (segment us (sizes_said ps) 1)) (edge_said (second_in bs) (segment us (sizes_said ps) 2) ∷ [])
+op_said numbered _ ds ws us bs ps = Return us
 
 -- the numbers of definitions, and the widths of their types
 abbrev pub numbers_in : List (ℕ × ValueTree) → List ℕ
@@ -57,21 +76,31 @@ numbers_in xs = map (λ x. x.0) xs
 abbrev pub widths_in : List (ℕ × ValueTree) → List ℕ
 widths_in xs = map (λ x. width_said x.1) xs
 
--- the operations of a block, and the blocks of a function
-abbrev pub ops_said : (List ℕ → ℕ) → Entities ℕ → List (Op ℕ)
-ops_said numbered no_entity = []
-ops_said numbered (an_entity (entity (operation kind results used pieces) us) ts) =
-    op_said numbered (slice_get read_ops kind) (numbers_in results) (widths_in results) used pieces
-    ∷ ops_said numbered ts
-ops_said numbered (an_entity (entity a_region us) ts) = ops_said numbered ts
-ops_said numbered (an_entity (entity (block label arguments) us) ts) = ops_said numbered ts
+-- the place of the block with a number among those of a function; 0 where it isn't among them
+abbrev pub place_among : List ℕ → ℕ → ℕ
+place_among names n = unwrap_or (index_of nat_eq n names) 0
 
+-- the operations of a block of a function whose blocks have these numbers
+abbrev pub ops_said : (List ℕ → ℕ) → List ℕ → Entities ℕ → List (Op ℕ)
+ops_said numbered names no_entity = []
+ops_said numbered names (an_entity (entity (operation kind results used successors pieces) us) ts) =
+    op_said numbered (slice_get read_ops kind) (numbers_in results) (widths_in results) used (map (place_among names) successors)
+    pieces ∷ ops_said numbered names ts
+ops_said numbered names (an_entity (entity a_region us) ts) = ops_said numbered names ts
+ops_said numbered names (an_entity (entity (block named label arguments) us) ts) = ops_said numbered names ts
+
+-- blocks of such a function
+abbrev pub blocks_said : (List ℕ → ℕ) → List ℕ → Entities ℕ → Fun ℕ
+blocks_said numbered names no_entity = []
+blocks_said numbered names (an_entity (entity (block named label arguments) us) ts) =
+    record { arguments = numbers_in arguments; ops = ops_said numbered names us } ∷ blocks_said numbered names ts
+blocks_said numbered names (an_entity (entity a_region us) ts) = blocks_said numbered names ts
+blocks_said numbered names (an_entity (entity (operation kind results used successors pieces) us) ts) =
+    blocks_said numbered names ts
+
+-- a function of these blocks
 abbrev pub fun_said : (List ℕ → ℕ) → Entities ℕ → Fun ℕ
-fun_said numbered no_entity = []
-fun_said numbered (an_entity (entity (block label arguments) us) ts) =
-    record { arguments = numbers_in arguments; ops = ops_said numbered us } ∷ fun_said numbered ts
-fun_said numbered (an_entity (entity a_region us) ts) = fun_said numbered ts
-fun_said numbered (an_entity (entity (operation kind results used pieces) us) ts) = fun_said numbered ts
+fun_said numbered ts = blocks_said numbered (blocks_among ts) ts
 
 -- what is in the first of these
 abbrev pub first_inside : Entities ℕ → Entities ℕ
@@ -89,10 +118,10 @@ regions_below (entity h us) = us
 -- the regions of the first of these operations that passes a test
 abbrev pub first_said : (ℕ → Pieces → Bool) → Entities ℕ → Option (Entities ℕ)
 first_said test no_entity = None
-first_said test (an_entity (entity (operation kind results used pieces) us) ts) =
+first_said test (an_entity (entity (operation kind results used successors pieces) us) ts) =
     if test kind pieces then Some us else first_said test ts
 first_said test (an_entity (entity a_region us) ts) = None
-first_said test (an_entity (entity (block label arguments) us) ts) = None
+first_said test (an_entity (entity (block named label arguments) us) ts) = None
 
 -- there is a kind, and it passes a test
 abbrev pub passes : (KitOp → Bool) → Option KitOp → Bool

@@ -6,7 +6,7 @@ use Rattle.std.proofs.lemmas.Option.{none-some, same_Some, some_pair_parts}
 use Rattle.ir_base.specs.declared.types.TypeHandle.{TypeHandle}
 use Rattle.ir_names.specs.declared.kinds.Signedness.{Signedness}
 use Rattle.ir_names.specs.Tree.{LabelledTree, Trees, node, no_tree, a_tree}
-use Rattle.ir_print.specs.Pieces.{type_of_kind, attribute_of_kind, list, item, operands, region, name, number, width}
+use Rattle.ir_print.specs.Pieces.{type_of_kind, attribute_of_kind, list, item, operands, successor, region, name, number, width}
 use Rattle.ir_print.specs.Pieces.{ValueTree, Pieces}
 use Rattle.ir_print.specs.Shown.{Said, said_type, said_list, said_item, said_width, leaf, Pairs, Shows, ShowsAll}
 use Rattle.ir_print.specs.Shown.{ShowsType}
@@ -211,6 +211,7 @@ module _ (keys others : List KitType) where
     type_same (node list ts) a c h k = let e = h.1 in absurd cc
     type_same (node item ts) a c h k = let e = h.1 in absurd cc
     type_same (node (operands n) ts) a c h k = absurd cc
+    type_same (node (successor n) ts) a c h k = absurd cc
     type_same (node region ts) a c h k = absurd cc
     type_same (node (name cs) ts) a c h k = absurd cc
     type_same (node (number b m) ts) a c h k = absurd cc
@@ -262,6 +263,7 @@ module _ (keys others : List KitType) where
     list_same (node (attribute_of_kind n) ts) xs ys h k = let e = h.2 in absurd cc
     list_same (node item ts) xs ys h k = let e = h.1 in absurd cc
     list_same (node (operands n) ts) xs ys h k = absurd cc
+    list_same (node (successor n) ts) xs ys h k = absurd cc
     list_same (node region ts) xs ys h k = absurd cc
     list_same (node (name cs) ts) xs ys h k = absurd cc
     list_same (node (number b m) ts) xs ys h k = absurd cc
@@ -288,6 +290,7 @@ module _ (keys others : List KitType) where
     item_same (node (attribute_of_kind n) ts) a c h k = let e = h.2 in absurd cc
     item_same (node list ts) a c h k = let e = h.1 in absurd cc
     item_same (node (operands n) ts) a c h k = absurd cc
+    item_same (node (successor n) ts) a c h k = absurd cc
     item_same (node region ts) a c h k = absurd cc
     item_same (node (name cs) ts) a c h k = absurd cc
     item_same (node (number b m) ts) a c h k = absurd cc

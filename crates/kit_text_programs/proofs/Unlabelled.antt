@@ -7,35 +7,34 @@ use Rattle.ir_program.specs.declared.handles.Ptr.{Ptr}
 use Rattle.ir_program.specs.declared.handles.Operation.{Operation}
 use Rattle.ir_program.specs.declared.handles.Region.{Region}
 use Rattle.ir_program.specs.declared.handles.BasicBlock.{BasicBlock}
-use Rattle.ir_program.specs.declared.handles.Value.{Value}
 use Rattle.text_dialect.specs.Seen.{SeenBlock, Seen}
 use Rattle.text_dialect.specs.Standing.{HasOwnLabel, HasTree, HasRegionTree, HasBlockTree, HaveRegionTrees}
-use Rattle.text_dialect.specs.Standing.{HaveBlockTrees, HaveTrees}
+use Rattle.text_dialect.specs.Standing.{HaveBlockTrees, HaveTrees, Naming}
 
 -- a block is what a text of some label shows, whatever label is written here
 abbrev pub HasSomeLabel : Ptr BasicBlock → SeenBlock → List ℕ → Type 0
 HasSomeLabel b v written = (label : List ℕ) × HasOwnLabel b v label
 
-module _ {K A T N : Type 0} (says : Saying K A T) (Named : Value → N → Type 0) (s : Seen K A T) where
+module _ {K A T N : Type 0} (says : Saying K A T) (Named : Naming N) (s : Seen K A T) where
   mutual
     pub unlabelled_tree : (t : Entity N) (p : Ptr Operation) → HasTree says Named HasOwnLabel s p t
         → HasTree says Named HasSomeLabel s p (unlabelled t)
-    unlabelled_tree (entity (operation kind results used pieces) us) p h =
+    unlabelled_tree (entity (operation kind results used successors pieces) us) p h =
         (h.0, h.1, h.2, unlabelled_regions us h.0.regions h.3)
     unlabelled_tree (entity a_region us) p h = absurd h
-    unlabelled_tree (entity (block label arguments) us) p h = absurd h
+    unlabelled_tree (entity (block named label arguments) us) p h = absurd h
 
     unlabelled_region : (t : Entity N) (r : Ptr Region) → HasRegionTree says Named HasOwnLabel s r t
         → HasRegionTree says Named HasSomeLabel s r (unlabelled t)
     unlabelled_region (entity a_region us) r h = (h.0, h.1, unlabelled_blocks us h.0 h.2)
-    unlabelled_region (entity (operation kind results used pieces) us) r h = absurd h
-    unlabelled_region (entity (block label arguments) us) r h = absurd h
+    unlabelled_region (entity (operation kind results used successors pieces) us) r h = absurd h
+    unlabelled_region (entity (block named label arguments) us) r h = absurd h
 
     unlabelled_block : (t : Entity N) (b : Ptr BasicBlock) → HasBlockTree says Named HasOwnLabel s b t
         → HasBlockTree says Named HasSomeLabel s b (unlabelled t)
-    unlabelled_block (entity (block label arguments) us) b h =
-        (h.0, h.1, (label, h.2), h.3, unlabelled_trees us h.0.operations h.4)
-    unlabelled_block (entity (operation kind results used pieces) us) b h = absurd h
+    unlabelled_block (entity (block named label arguments) us) b h =
+        (h.0, h.1, (label, h.2), h.3, h.4, unlabelled_trees us h.0.operations h.5)
+    unlabelled_block (entity (operation kind results used successors pieces) us) b h = absurd h
     unlabelled_block (entity a_region us) b h = absurd h
 
     unlabelled_regions : (ts : Entities N) (rs : List (Ptr Region)) → HaveRegionTrees says Named HasOwnLabel s rs ts

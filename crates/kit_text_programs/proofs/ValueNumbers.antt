@@ -7,31 +7,31 @@ use Rattle.ir_program.specs.declared.handles.Value.{Value}
 use Rattle.ir_program.specs.Replacing.{same_value}
 use Rattle.kit_behaviour.specs.Numbering.{index_of}
 use Rattle.kit_ruled_views.proofs.HandleSameness.{values_apart}
-use Rattle.text_rereading.specs.Rereading.{Named}
+use Rattle.kit_views.specs.FlatView.{IsSameness}
+use Rattle.text_rereading.specs.Rereading.{Numbering, Named}
 use Rattle.kit_text_programs.specs.Laws.{HaveOwnNumbers}
 
--- a value that is in a list is found there
-found : (v : Value) (xs : List Value) (n : ℕ) → slice_get xs n ≡ Some v
-    → (i : ℕ) × (index_of same_value v xs ≡ Some i) × (slice_get xs i ≡ Some v)
-found v [] n e = cc
-found v (x ∷ xs) n e = by_test (same_value v x) refl n e (λ m at. found v xs m at)
+-- what is in a list is found there
+pub found : {X : Type 0} (test : X → X → Bool) → IsSameness test → (v : X) (xs : List X) (n : ℕ) → slice_get xs n ≡ Some v
+    → (i : ℕ) × (index_of test v xs ≡ Some i) × (slice_get xs i ≡ Some v)
+found test apart v [] n e = cc
+found test apart v (x ∷ xs) n e = by_test (test v x) refl n e (λ m at. found test apart v xs m at)
   where
-    by_test : (b : Bool) → same_value v x ≡ b → (k : ℕ) → slice_get (x ∷ xs) k ≡ Some v
-        → ((m : ℕ) → slice_get xs m ≡ Some v
-        → (i : ℕ) × (index_of same_value v xs ≡ Some i) × (slice_get xs i ≡ Some v))
-        → (i : ℕ) × (index_of same_value v (x ∷ xs) ≡ Some i) × (slice_get (x ∷ xs) i ≡ Some v)
+    by_test : (b : Bool) → test v x ≡ b → (k : ℕ) → slice_get (x ∷ xs) k ≡ Some v
+        → ((m : ℕ) → slice_get xs m ≡ Some v → (i : ℕ) × (index_of test v xs ≡ Some i) × (slice_get xs i ≡ Some v))
+        → (i : ℕ) × (index_of test v (x ∷ xs) ≡ Some i) × (slice_get (x ∷ xs) i ≡ Some v)
     by_test true t k at rest = (
       0,
-      ap (λ b. if b then Some 0 else option_map suc (index_of same_value v xs)) t,
-      ap Some (sym (values_apart.true_same v x t)),
+      ap (λ b. if b then Some 0 else option_map suc (index_of test v xs)) t,
+      ap Some (sym (apart.true_same v x t)),
     )
     by_test false t zero at rest =
         let same : x ≡ v = cc in
-        let test : same_value v x ≡ true = ap (λ y. same_value v y) same ∙ values_apart.same_true v in cc
+        let holds : test v x ≡ true = ap (λ y. test v y) same ∙ apart.same_true v in cc
     by_test false t (suc m) at rest =
         let r = rest m at in (
           suc r.0,
-          ap (λ b. if b then Some 0 else option_map suc (index_of same_value v xs)) t ∙ ap (option_map suc) r.1,
+          ap (λ b. if b then Some 0 else option_map suc (index_of test v xs)) t ∙ ap (option_map suc) r.1,
           r.2,
         )
 
@@ -41,19 +41,23 @@ nat_same n = grind (arith, nat_tests)
 nat_true : (n m : ℕ) → nat_eq n m ≡ true → n ≡ m
 nat_true n m h = grind (arith, nat_tests)
 
-module _ (values : List Value) (own : HaveOwnNumbers values) where
+-- numbers are told apart
+pub numbers_same : IsSameness nat_eq
+numbers_same = record { true_same = nat_true; same_true = nat_same }
+
+module _ (numbering : Numbering) (own : HaveOwnNumbers numbering) where
   -- the number of a value, where it has one
   abbrev pub number_of_value : Value → ℕ
-  number_of_value v = unwrap_or (index_of same_value v values) 0
+  number_of_value v = unwrap_or (index_of same_value v numbering.values) 0
 
   -- the value has a number
   abbrev pub HasNumber : Value → Type 0
-  HasNumber v = (n : ℕ) × Named values v n
+  HasNumber v = (n : ℕ) × (Named numbering).value v n
 
-  pub number_is : (v : Value) (n : ℕ) → Named values v n → number_of_value v ≡ n
+  pub number_is : (v : Value) (n : ℕ) → (Named numbering).value v n → number_of_value v ≡ n
   number_is v n named =
-      let at = found v values n named in
-      ap (λ o. unwrap_or o 0) at.1 ∙ own at.0 n v v at.2 named refl
+      let at = found same_value values_apart v numbering.values n named in
+      ap (λ o. unwrap_or o 0) at.1 ∙ own.values at.0 n v v at.2 named refl
 
   -- numbers tell values apart
   pub numbers_apart : (v w : Value) → HasNumber v → HasNumber w
@@ -70,6 +74,6 @@ module _ (values : List Value) (own : HaveOwnNumbers values) where
           by_number true q =
               let same : a.0 ≡ b.0 = sym (number_is v a.0 a.1)
               ∙ nat_true (number_of_value v) (number_of_value w) q ∙ number_is w b.0 b.1 in
-              let both : Some v ≡ Some w = sym a.1 ∙ ap (slice_get values) same ∙ b.1 in
+              let both : Some v ≡ Some w = sym a.1 ∙ ap (slice_get numbering.values) same ∙ b.1 in
               let one : v ≡ w = cc in
               let test : same_value v w ≡ true = ap (λ x. same_value v x) (sym one) ∙ values_apart.same_true v in cc

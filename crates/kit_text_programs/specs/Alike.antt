@@ -1,25 +1,26 @@
 -- Operations of two worlds that are alike: with all that is in them and around them, up to the handles of values,
 -- types, blocks and operations.
-use Rattle.std.specs.Prelude.{◌≡◌, ℕ, [], Option, Some, None, option_and_then}
+use Rattle.std.specs.Prelude.{◌≡◌, Option, Some, None, option_and_then}
 use Rattle.ir_base.specs.declared.types.TypeHandle.{TypeHandle}
 use Rattle.ir_names.specs.Dictionary.{attribute_at}
 use Rattle.ir_print.specs.Shown.{Pairs}
+use Rattle.ir_program.specs.declared.handles.BasicBlock.{BasicBlock}
+use Rattle.ir_program.specs.declared.handles.Ptr.{Ptr}
 use Rattle.ir_program.specs.declared.handles.Value.{Value}
 use Rattle.ir_trees.specs.Stands.{ProgramTree, ProgramHead}
 use Rattle.ir_trees.specs.Trees.{Defined, Sort, Operations, Blocks, Regions, end, operation, block, region}
 use Rattle.ir_trees.specs.Stands.{ProgramLabel}
 use Rattle.kit_ops.specs.declared.attributes.keys.TheConstants.{SYMBOL_NAME, FUNCTION_TYPE, CONSTANT_VALUE, CALLEE}
-use Rattle.kit_ops.specs.declared.attributes.keys.TheConstants.{CALLEE_TYPE}
+use Rattle.kit_ops.specs.declared.attributes.keys.TheConstants.{CALLEE_TYPE, SEGMENT_SIZES}
 use Rattle.kit_ops.specs.declared.attributes.IntegerAttr.{IntegerAttr}
 use Rattle.kit_ops.specs.declared.attributes.KitAttr.TheVariants as attrs
 use Rattle.kit_ops.specs.declared.kinds.KitOp.TheVariants as ops
 use Rattle.kit_ops.specs.declared.types.FunctionType.{FunctionType}
-use Rattle.kit.specs.Forms.{number_of}
 use Rattle.kit_checks.specs.declared.rule.Rule.{Rule}
 use Rattle.kit_checks.specs.declared.rule.Rule.TheVariants as rule
 use Rattle.kit_checks.specs.Rules.{IsCommon, MayHave}
 use Rattle.kit_checks.specs.Sites.{Around, Body, Listed, Site}
-use Rattle.kit_checks.specs.Words.{Every, function_type, identifier_in, integer_in, integer_type, type_in}
+use Rattle.kit_checks.specs.Words.{Every, function_type, identifier_in, integer_in, integer_type, sizes_in, type_in}
 use Rattle.kit_checks.specs.World.{World}
 
 -- both are there and are so, or neither is there
@@ -33,19 +34,20 @@ AreBoth R (Some x) None = ⊥
 abbrev pub IsInjective : {X Y : Type 0} → (X → Y → Type 0) → Type 0
 IsInjective {X} {Y} R = (a b : X) (c d : Y) → R a c → R b d → c ≡ d → a ≡ b
 
--- two worlds, and which types and values of the one belong to which of the other
+-- two worlds, and which types, values and blocks of the one belong to which of the other
 module _ {O B P C : Type 0} (w : World O B) (x : World P C) (OfTypes : TypeHandle → TypeHandle → Type 0)
-    (OfValues : Value → Value → Type 0) where
+    (OfValues : Value → Value → Type 0) (OfBlocks : Ptr BasicBlock → Ptr BasicBlock → Type 0) where
   -- function types of types that belong to one another
   abbrev pub AreSignatures : FunctionType → FunctionType → Type 0
   AreSignatures f g = Pairs OfTypes f.inputs.items g.inputs.items × Pairs OfTypes f.results.items g.results.items
 
-  -- types and values of the first world are told apart where those of the second are, and values of the second where
-  -- those of the first are; types that belong to one another are the same integer type or alike function types
+  -- types, values and blocks of the first world are told apart where those of the second are, and values of the second
+  -- where those of the first are; types that belong to one another are the same integer type or alike function types
   pub record BelongTogether : Type 0 where
     pub types_back : IsInjective OfTypes
     pub values_back : IsInjective OfValues
     pub values_forth : IsInjective (λ u v. OfValues v u)
+    pub blocks_back : IsInjective OfBlocks
     pub integers : (a c : TypeHandle) → OfTypes a c → integer_type w a ≡ integer_type x c
     pub functions : (a c : TypeHandle) → OfTypes a c → AreBoth AreSignatures (function_type w a) (function_type x c)
 
@@ -62,16 +64,13 @@ module _ {O B P C : Type 0} (w : World O B) (x : World P C) (OfTypes : TypeHandl
     pub integer : a.integer ≡ b.integer
     pub types : OfTypes a.ty b.ty
 
-  -- operations of one kind that can be read, with operands and results that belong to one another, and attributes
+  -- operations of one kind, with operands, results and successors that belong to one another, and attributes
   -- that say the same; the first has no others than its own
   pub record AreHeads (h : ProgramHead O B) (k : ProgramHead P C) : Type 0 where
     pub kinds : w.kind h.content ≡ x.kind k.content
-    pub number : ℕ
-    pub numbered : number_of (w.kind h.content) ≡ Some number
     pub operands : Pairs OfValues h.operands k.operands
     pub results : Pairs AreDefinedAlike h.results k.results
-    pub successors : h.successors ≡ []
-    pub no_successors : k.successors ≡ []
+    pub successors : Pairs OfBlocks h.successors k.successors
     pub names : option_and_then identifier_in (attribute_at (w.attributes h.content) SYMBOL_NAME.now)
         ≡ option_and_then identifier_in (attribute_at (x.attributes k.content) SYMBOL_NAME.now)
     pub types : w.kind h.content ≡ ops.Func →
@@ -89,6 +88,9 @@ module _ {O B P C : Type 0} (w : World O B) (x : World P C) (OfTypes : TypeHandl
     pub callee_types : w.kind h.content ≡ ops.Call →
         AreBoth OfTypes (option_and_then type_in (attribute_at (w.attributes h.content) CALLEE_TYPE.now))
         (option_and_then type_in (attribute_at (x.attributes k.content) CALLEE_TYPE.now))
+    pub sizes : w.kind h.content ≡ ops.CondBr →
+        option_and_then sizes_in (attribute_at (w.attributes h.content) SEGMENT_SIZES.now)
+        ≡ option_and_then sizes_in (attribute_at (x.attributes k.content) SEGMENT_SIZES.now)
 
   -- lists of operations, of blocks, of regions that are alike one by one; blocks of the first have only attributes that
   -- all may have
@@ -100,7 +102,7 @@ module _ {O B P C : Type 0} (w : World O B) (x : World P C) (OfTypes : TypeHandl
         (rest : Listed O B Operations) (others : Listed P C Operations) → AreHeads h k → AreAlike Regions rs qs →
         AreAlike Operations rest others → AreAlike Operations (operation h rs rest) (operation k qs others)
     blocks : (l : ProgramLabel O B) (m : ProgramLabel P C) (os : Listed O B Operations) (ps : Listed P C Operations)
-        (rest : Listed O B Blocks) (others : Listed P C Blocks) → Pairs AreDefinedAlike l.arguments m.arguments →
+        (rest : Listed O B Blocks) (others : Listed P C Blocks) → OfBlocks l.name m.name → Pairs AreDefinedAlike l.arguments m.arguments →
         Every IsCommon (w.block_attributes l.content) → AreAlike Operations os ps → AreAlike Blocks rest others →
         AreAlike Blocks (block l os rest) (block m ps others)
     regions : (bs : Listed O B Blocks) (cs : Listed P C Blocks) (rest : Listed O B Regions)
@@ -112,6 +114,7 @@ module _ {O B P C : Type 0} (w : World O B) (x : World P C) (OfTypes : TypeHandl
     pub inside : AreAlike Regions t.regions u.regions
 
   pub record AreBodies (b : Body O B) (d : Body P C) : Type 0 where
+    pub names : OfBlocks b.label.name d.label.name
     pub arguments : Pairs AreDefinedAlike b.label.arguments d.label.arguments
     pub known : Every IsCommon (w.block_attributes b.label.content)
     pub listed : AreAlike Operations b.operations d.operations
@@ -133,6 +136,7 @@ module _ {O B P C : Type 0} (w : World O B) (x : World P C) (OfTypes : TypeHandl
 -- whether the rule is kept is told by the types of operands, and so where these are known to be visible
 abbrev pub AreVisibleFirst : Rule → Type 0
 AreVisibleFirst rule.TypesAgree = Unit {0}
+AreVisibleFirst rule.EdgesFit = Unit {0}
 AreVisibleFirst rule.CallsFit = Unit {0}
 AreVisibleFirst rule.ReturnsFit = Unit {0}
 AreVisibleFirst _ = ⊥

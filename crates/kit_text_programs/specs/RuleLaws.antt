@@ -20,17 +20,18 @@ use Rattle.kit_checks.specs.World.{world_of}
 use Rattle.kit.specs.Says.{says}
 use Rattle.text_dialect.specs.Seen.{seen}
 use Rattle.text_dialect.specs.Standing.{StandsForTexts}
-use Rattle.text_rereading.specs.Rereading.{Named}
+use Rattle.text_rereading.specs.Rereading.{Numbering, Named}
 use Rattle.kit_writable_trees.specs.Laws.{WritableContext, WritableTree}
 use Rattle.kit_text_programs.specs.Laws.{HaveOwnNumbers}
 use Rattle.kit_text_programs.specs.Alike.{AreTrees, AreVisibleFirst}
-use Rattle.kit_text_programs.specs.Same.{IsSameType, IsSameValue}
+use Rattle.kit_text_programs.specs.Same.{IsSameType, IsSameValue, IsSameBlock}
 
--- the operations of the one tree are alike those of the other: types that are the same and values of one number
--- belong to one another
-abbrev pub AreAlikeIn : WritableContext → WritableContext → List Value → List Value → WritableTree → WritableTree → Type 0
-AreAlikeIn s z values others t u =
-    AreTrees (world_of s) (world_of z) (IsSameType (key_at s.types) (key_at z.types)) (IsSameValue values others) t u
+-- the operations of the one tree are alike those of the other: types that are the same, and values and blocks of one
+-- number belong to one another
+abbrev pub AreAlikeIn : WritableContext → WritableContext → Numbering → Numbering → WritableTree → WritableTree → Type 0
+AreAlikeIn s z numbering others t u =
+    AreTrees (world_of s) (world_of z) (IsSameType (key_at s.types) (key_at z.types)) (IsSameValue numbering others)
+    (IsSameBlock numbering others) t u
 
 -- the context has one handle for each type: handles are equal exactly where types are
 abbrev pub HasOneHandleEach : WritableContext → Type 0
@@ -53,15 +54,15 @@ pub record HasVerdictOf (s z : WritableContext) (t u : WritableTree) : Type 0 wh
 
 -- trees that are alike have one verdict
 abbrev pub AlikeTreesHaveOneVerdict : Type 0
-AlikeTreesHaveOneVerdict = (s z : WritableContext) (values others : List Value) (t u : WritableTree) → HaveOwnNumbers values →
-    HaveOwnNumbers others → AreAlikeIn s z values others t u → AreAlikeIn z s others values u t → HasOneHandleEach s →
+AlikeTreesHaveOneVerdict = (s z : WritableContext) (numbering others : Numbering) (t u : WritableTree) → HaveOwnNumbers numbering →
+    HaveOwnNumbers others → AreAlikeIn s z numbering others t u → AreAlikeIn z s others numbering u t → HasOneHandleEach s →
     HasOneHandleEach z → HasVerdictOf s z t u
 
 -- trees that stand in two contexts for trees of texts that are the same but for their labels have one verdict
 abbrev pub TextsHaveOneVerdict : Type 0
 TextsHaveOneVerdict = (text other_text : Entity ℕ) (s z : WritableContext) (root other : Ptr Operation)
-    (values others : List Value) (t u : WritableTree) → IsSameModule text other_text → HaveOwnNumbers values →
-    HaveOwnNumbers others → StandsForTexts says (Named values) (seen s) root text →
+    (numbering others : Numbering) (t u : WritableTree) → IsSameModule text other_text → HaveOwnNumbers numbering →
+    HaveOwnNumbers others → StandsForTexts says (Named numbering) (seen s) root text →
     StandsForTexts says (Named others) (seen z) other other_text → StandsFor s.program root t →
     StandsFor z.program other u → HasOneHandleEach s → HasOneHandleEach z → HaveWrittenTypes s t →
     HaveWrittenTypes z u → HasVerdictOf s z t u

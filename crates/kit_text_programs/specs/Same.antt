@@ -1,12 +1,14 @@
 -- Types and values of two contexts that are the same.
 use Rattle.std.specs.Prelude.{◌≡◌, ℕ, List, [], ◌∷◌, Option, Some}
 use Rattle.ir_base.specs.declared.types.TypeHandle.{TypeHandle}
+use Rattle.ir_program.specs.declared.handles.BasicBlock.{BasicBlock}
+use Rattle.ir_program.specs.declared.handles.Ptr.{Ptr}
 use Rattle.ir_program.specs.declared.handles.Value.{Value}
 use Rattle.kit_ops.specs.declared.types.FunctionType.{FunctionType}
 use Rattle.kit_ops.specs.declared.types.IntegerType.{IntegerType}
 use Rattle.kit_ops.specs.declared.types.KitType.{KitType}
 use Rattle.kit_ops.specs.declared.types.KitType.TheVariants as types
-use Rattle.text_rereading.specs.Rereading.{Named}
+use Rattle.text_rereading.specs.Rereading.{Numbering, Named}
 
 -- the same integer type, function types of the same handles, the unit type
 abbrev pub AreSameKeys : KitType → KitType → Type 0
@@ -43,5 +45,9 @@ module _ (leads others : TypeHandle → Option KitType) where
   IsSameType a c = AreSameTypes (a ∷ []) (c ∷ [])
 
 -- the values have one number in a text
-abbrev pub IsSameValue : List Value → List Value → Value → Value → Type 0
-IsSameValue values others v u = (n : ℕ) × Named values v n × Named others u n
+abbrev pub IsSameValue : Numbering → Numbering → Value → Value → Type 0
+IsSameValue numbering others v u = (n : ℕ) × (Named numbering).value v n × (Named others).value u n
+
+-- so have the blocks
+abbrev pub IsSameBlock : Numbering → Numbering → Ptr BasicBlock → Ptr BasicBlock → Type 0
+IsSameBlock numbering others b c = (n : ℕ) × (Named numbering).block b n × (Named others).block c n

@@ -8,7 +8,6 @@ use Rattle.ir_print.specs.Pieces.{Entities, no_entity, an_entity}
 use Rattle.ir_print.specs.Shown.{ShowsType}
 use Rattle.ir_program.specs.declared.handles.Operation.{Operation}
 use Rattle.ir_program.specs.declared.handles.Ptr.{Ptr}
-use Rattle.ir_program.specs.declared.handles.Value.{Value}
 use Rattle.ir_trees.specs.Renames.{IsSameUpToNames}
 use Rattle.ir_trees.specs.Stands.{by_handle, StandsFor}
 use Rattle.kit.specs.Meaning.{kit}
@@ -25,7 +24,7 @@ use Rattle.opt_meanings.specs.Meanings.{Bijection, IsMeant, mean_root, worded}
 use Rattle.opt_trees.specs.Occurrences.{Has}
 use Rattle.text_dialect.specs.Seen.{seen}
 use Rattle.text_dialect.specs.Standing.{StandsForTexts}
-use Rattle.text_rereading.specs.Rereading.{Named}
+use Rattle.text_rereading.specs.Rereading.{Numbering, Named}
 use Rattle.kit_text_programs.specs.Meanings.{integers, kit_said, meanings}
 
 -- 1. passes
@@ -63,9 +62,9 @@ types_among (a_tree (node _ us) ts) = types_among ts
 
 -- the types that a head says: those of its results or arguments, and those among its pieces
 abbrev pub types_of_head : EntityHead ℕ → List ValueTree
-types_of_head (operation kind results used pieces) = map (λ (r : ℕ × ValueTree). r.1) results ++ types_among pieces
+types_of_head (operation kind results used successors pieces) = map (λ (r : ℕ × ValueTree). r.1) results ++ types_among pieces
 types_of_head a_region = []
-types_of_head (block label arguments) = map (λ (r : ℕ × ValueTree). r.1) arguments
+types_of_head (block named label arguments) = map (λ (r : ℕ × ValueTree). r.1) arguments
 
 abbrev mutual
   -- the types that a tree of texts says
@@ -79,9 +78,9 @@ abbrev mutual
 -- an operation of a context stands for this tree and for this tree of texts. Different numbers of the text name
 -- different values; below the root no two operations, blocks or definitions have one handle; a type has one handle
 pub record StandsAs (text : Entity ℕ) (s : WritableContext) (root : Ptr Operation) (t : WritableTree) : Type 0 where
-  pub values : List Value
-  pub distinct : HaveOwnNumbers values
-  pub stands : StandsForTexts says (Named values) (seen s) root text
+  pub numbering : Numbering
+  pub distinct : HaveOwnNumbers numbering
+  pub stands : StandsForTexts says (Named numbering) (seen s) root text
   pub is_tree : StandsFor s.program root t
   pub names : HasOwnNames t
   pub handles : HasOneHandleEach s

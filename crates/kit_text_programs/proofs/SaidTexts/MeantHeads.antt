@@ -15,7 +15,7 @@ use Rattle.ir_trees.proofs.Alike.{nothing}
 use Rattle.opt_meanings.specs.Meanings.{mean_defined, mean_head, mean_label}
 use Rattle.text_dialect.specs.Seen.{seen_operation, types_of}
 use Rattle.text_dialect.specs.Standing.{HasDefinition, HasHead}
-use Rattle.text_rereading.specs.Rereading.{Named}
+use Rattle.text_rereading.specs.Rereading.{Numbering, Named}
 use Rattle.kit.specs.Meaning.{KitOperation, KitBlock}
 use Rattle.kit_ops.specs.declared.kinds.KitOp.{KitOp}
 use Rattle.kit_ops.specs.declared.kinds.KitOp.TheVariants as ops
@@ -37,9 +37,9 @@ use Rattle.kit_text_programs.proofs.SaidTexts.SaidMeanings.{head_said, label_sai
 abbrev pub types_in : Written → List ValueTree
 types_in rs = map (λ (r : ℕ × ValueTree). r.1) rs
 
-module _ (number : ValueTree → ℕ) (code : TypeHandle → ℕ) (keys : List KitType) (values : List Value) where
+module _ (number : ValueTree → ℕ) (code : TypeHandle → ℕ) (keys : List KitType) (numbering : Numbering) where
   abbrev Defines : List TypedValue → Written → Type 0
-  Defines vs rs = Pairs (HasDefinition says (Named values) keys) vs rs
+  Defines vs rs = Pairs (HasDefinition says (Named numbering) keys) vs rs
 
   -- definitions have types with the numbers of those that are written
   defined_meant : (vs : List TypedValue) (rs : Written) → Defines vs rs → Numbered number code keys (types_in rs)
@@ -55,26 +55,26 @@ module _ (number : ValueTree → ℕ) (code : TypeHandle → ℕ) (keys : List K
 
   -- and values with the numbers that are written
   pub defined_named : (vs : List TypedValue) (rs : Written) → Defines vs rs
-      → Pairs (Named values) (names_of (map (mean_defined code) (map defined_by vs))) (numbers_in rs)
+      → Pairs (Named numbering).value (names_of (map (mean_defined code) (map defined_by vs))) (numbers_in rs)
   defined_named [] [] d = tt
   defined_named [] (r ∷ rs) d = absurd d
   defined_named (v ∷ vs) [] d = absurd d
   defined_named (v ∷ vs) (r ∷ rs) d = (d.0.0, defined_named vs rs d.1)
 
-  -- operands are as many as are written
-  used_meant : (vs : List Value) (ns : List ℕ) → Pairs (Named values) vs ns
-      → map (nothing {X = Value}) vs ≡ map (nothing {X = ℕ}) ns
-  used_meant [] [] h = refl
-  used_meant [] (n ∷ ns) h = absurd h
-  used_meant (v ∷ vs) [] h = absurd h
-  used_meant (v ∷ vs) (n ∷ ns) h = let rest = used_meant vs ns h.1 in λ i. tt ∷ rest i
+  -- operands and successors are as many as are written
+  used_meant : {X : Type 0} (R : X → ℕ → Type 0) (vs : List X) (ns : List ℕ) → Pairs R vs ns
+      → map (nothing {X = X}) vs ≡ map (nothing {X = ℕ}) ns
+  used_meant R [] [] h = refl
+  used_meant R [] (n ∷ ns) h = absurd h
+  used_meant R (v ∷ vs) [] h = absurd h
+  used_meant R (v ∷ vs) (n ∷ ns) h = let rest = used_meant R vs ns h.1 in λ i. tt ∷ rest i
 
-  module _ (p : Ptr Operation) (v : OperationView KitOperation) (kind : ℕ) (results : Written) (used : List ℕ)
-      (pieces : Pieces) (h : HasHead says (Named values) keys (seen_operation v) kind results used pieces) where
+  module _ (p : Ptr Operation) (v : OperationView KitOperation) (kind : ℕ) (results : Written) (used successors : List ℕ)
+      (pieces : Pieces) (h : HasHead says (Named numbering) keys (seen_operation v) kind results used successors pieces) where
     -- values of the operation have the numbers that are written
-    pub head_named : Pairs (Named values) (values_at (mean_head (meanings code) (head_of p v)))
+    pub head_named : Pairs (Named numbering).value (values_at (mean_head (meanings code) (head_of p v)))
         (numbers_in results ++ used)
-    head_named = pairs_joined (Named values) (names_of (map (mean_defined code) (map defined_by v.results))) v.operands
+    head_named = pairs_joined (Named numbering).value (names_of (map (mean_defined code) (map defined_by v.results))) v.operands
         (numbers_in results) used (defined_named v.results results h.defines) h.mentions
 
     module _ (n : Numbered number code keys (types_in results ++ types_among pieces)) where
@@ -85,7 +85,7 @@ module _ (number : ValueTree → ℕ) (code : TypeHandle → ℕ) (keys : List K
 
       content_meant : operation_meant code v.payload ≡ operation_said number kind results pieces
       content_meant =
-          let at = attributes_meant number code (Named values) keys v.payload.notes.attributes (length v.operands) kind
+          let at = attributes_meant number code (Named numbering) keys v.payload.notes.attributes (length v.operands) kind
           v.results h.said pieces results h.shown h.defines n v.payload.kind h.says_it in
           λ i. record {
             kind = kind_is i;
@@ -94,18 +94,18 @@ module _ (number : ValueTree → ℕ) (code : TypeHandle → ℕ) (keys : List K
 
       -- the operation means what is written
       pub head_meant : rename_head forget (mean_head (meanings code) (head_of p v))
-          ≡ head_said number kind results used pieces
+          ≡ head_said number kind results used successors pieces
       head_meant =
           let defined = defined_meant v.results results h.defines
           (numbered_front number code keys (types_in results) (types_among pieces) n) in
-          let operands = used_meant v.operands used h.mentions in
-          let none = ap (λ (bs : List (Ptr BasicBlock)). map (nothing {X = Ptr BasicBlock}) bs) h.no_successors in
+          let operands = used_meant (Named numbering).value v.operands used h.mentions in
+          let goes = used_meant (Named numbering).block v.successors successors h.goes_on in
           λ i. record {
             name = tt;
             content = content_meant i;
             results = defined i;
             operands = operands i;
-            successors = none i;
+            successors = goes i;
           }
 
   -- a block without attributes means what is written

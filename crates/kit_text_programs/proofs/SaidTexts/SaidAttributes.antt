@@ -10,37 +10,37 @@ use Rattle.ir_base.specs.declared.types.TypeHandle.{TypeHandle}
 use Rattle.ir_names.specs.Dictionary.{attribute_at}
 use Rattle.ir_names.specs.Identifier.{text_of}
 use Rattle.ir_names.specs.Tree.{node, no_tree, a_tree}
-use Rattle.ir_print.specs.Pieces.{type_of_kind, attribute_of_kind, list, item, operands, region, name, number, width}
+use Rattle.ir_print.specs.Pieces.{type_of_kind, attribute_of_kind, list, item, operands, successor, region, name, number, width}
 use Rattle.ir_print.specs.Pieces.{ValueTree, Pieces}
 use Rattle.ir_print.specs.Shown.{said_type, leaf, Pairs, ShowsAll, ShowsType}
 use Rattle.ir_program.specs.Program.{TypedValue}
-use Rattle.ir_program.specs.declared.handles.Value.{Value}
 use Rattle.opt_trees.specs.Occurrences.{Has}
 use Rattle.text_dialect.specs.Seen.{types_of}
-use Rattle.text_dialect.specs.Standing.{HasDefinition}
+use Rattle.text_dialect.specs.Standing.{HasDefinition, Naming}
 use Rattle.kit_ops.specs.declared.attributes.IntegerAttr.{IntegerAttr}
 use Rattle.kit_ops.specs.declared.attributes.KitAttr.{KitAttr}
 use Rattle.kit_ops.specs.declared.attributes.KitAttr.TheVariants as attrs
 use Rattle.kit_ops.specs.declared.kinds.KitOp.{KitOp}
 use Rattle.kit_ops.specs.declared.kinds.KitOp.TheVariants as ops
 use Rattle.kit_ops.specs.declared.types.KitType.{KitType}
-use Rattle.kit_ops.specs.Keys.{symbol_name, function_type, constant_value, callee, callee_type}
+use Rattle.kit_ops.specs.Keys.{symbol_name, function_type, constant_value, callee, callee_type, segment_sizes}
 use Rattle.kit_checks.specs.Words.{identifier_in, type_in}
-use Rattle.kit.specs.Forms.{OpForm, NamedRegion, TypedRegion, TwoOperands, OneOperand, AnyOperands, Empty, Called}
+use Rattle.kit.specs.Forms.{OpForm, NamedRegion, TypedRegion, TwoOperands, OneOperand, AnyOperands, Empty, Called, Edge}
+use Rattle.kit.specs.Forms.{ConditionEdges}
 use Rattle.kit.specs.Forms.{form_of}
 use Rattle.kit.specs.Forms as forms
 use Rattle.kit.specs.Says.{says, only, said_in, said_of_module, said_of_function, said_of_constant, said_of_pair}
-use Rattle.kit.specs.Says.{said_of_call}
+use Rattle.kit.specs.Says.{said_of_call, said_of_condition}
 use Rattle.kit.specs.Seen.{seen}
 use Rattle.kit_text_programs.proofs.SaidHeads.{said_parts}
-use Rattle.kit_text_programs.proofs.SaidPrograms.{name_said, bits_said}
+use Rattle.kit_text_programs.proofs.SaidPrograms.{name_said, bits_said, sizes_read}
 use Rattle.kit_text_programs.proofs.ReadHeads.{Entries, SaidTrees, type_read, callee_read, integer_read}
-use Rattle.kit_text_programs.proofs.ReadHeads.{IsRead, read}
+use Rattle.kit_text_programs.proofs.ReadHeads.{IsRead, read, HasShownSizes, sizes_shown}
 use Rattle.kit_text_programs.specs.SameLaws.{types_among}
-use Rattle.kit_text_programs.specs.Meanings.{Attribute, Integer, Name, OfType, attribute_meant, number_meant}
+use Rattle.kit_text_programs.specs.Meanings.{Attribute, Integer, Name, OfType, Sizes, attribute_meant, number_meant}
 use Rattle.kit_text_programs.proofs.SaidTexts.AttributeMaps.{no_entries, one_at, two_at, map_one, map_two}
 use Rattle.kit_text_programs.proofs.SaidTexts.SaidMeanings.{Written, type_meant, first_number, integer_meant}
-use Rattle.kit_text_programs.proofs.SaidTexts.SaidMeanings.{attributes_said}
+use Rattle.kit_text_programs.proofs.SaidTexts.SaidMeanings.{attributes_said, sizes_meant}
 
 -- ---- how many attributes there are
 
@@ -61,6 +61,8 @@ count_in OneOperand = 0
 count_in AnyOperands = 0
 count_in Empty = 0
 count_in Called = 2
+count_in Edge = 0
+count_in ConditionEdges = 1
 
 abbrev count_by : Option OpForm → ℕ
 count_by None = 0
@@ -84,6 +86,9 @@ form_count AnyOperands es n tys said e = (Decides-eqb (length es) 0).0 (only_whe
 form_count Empty es n tys said e = of_count (length es) 0 (n == 0) _ said e
 form_count Called es n tys said e = (Decides-eqb (length es) 2).0
     (only_where (length es == 2) (said_of_call (attribute_at es callee) (attribute_at es callee_type) n) said e)
+form_count Edge es n tys said e = (Decides-eqb (length es) 0).0 (only_where (length es == 0) _ said e)
+form_count ConditionEdges es n tys said e = (Decides-eqb (length es) 1).0
+    (only_where (length es == 1) (said_of_condition (attribute_at es segment_sizes) n) said e)
 
 -- an operation that says something has as many attributes as its form
 counted : (k : KitOp) (es : Entries) (n : ℕ) (tys : List TypeHandle) (kind : ℕ) (said : SaidTrees)
@@ -123,6 +128,7 @@ behind t (node (attribute_of_kind n) us) ps h = h
 behind t (node list us) ps h = h
 behind t (node item us) ps h = h
 behind t (node (operands n) us) ps h = h
+behind t (node (successor n) us) ps h = h
 behind t (node region us) ps h = h
 behind t (node (name cs) us) ps h = h
 behind t (node (number b m) us) ps h = h
@@ -170,7 +176,7 @@ module _ (number_of : ValueTree → ℕ) (code : TypeHandle → ℕ) where
   typed (Some (attrs.«Type» ty)) h e = (attrs.«Type» ty, refl, ap (λ (x : TypeHandle). Some (OfType (code x))) (same_Some ty h e))
   typed _ h e = absurd (none-some h e)
 
-  module _ (Names : Value → ℕ → Type 0) (keys : List KitType) where
+  module _ (Names : Naming ℕ) (keys : List KitType) where
     -- the type of the one result has the number of what the text says
     first_typed : (vs : List TypedValue) (rs : Written) (h : TypeHandle) → Pairs (HasDefinition says Names keys) vs rs
         → Numbered number_of code keys (map (λ (r : ℕ × ValueTree). r.1) rs) → types_of vs ≡ h ∷ []
@@ -238,6 +244,14 @@ module _ (number_of : ValueTree → ℕ) (code : TypeHandle → ℕ) where
           ∙ map_one (attribute_meant code) (bytes_eq key constant_value) (attrs.Integer v)
           ∙ ap (λ (a : Option Attribute). cond (bytes_eq key constant_value) a None) same
 
+      condition_meant : HasShownSizes es n ps → length es ≡ 1 → IsMeant ops.CondBr
+      condition_meant z l key =
+          let same : Some (Sizes z.sizes.items) ≡ sizes_meant number_of (sizes_read ps) =
+          ap (λ (zs : List ℕ). Some (Sizes zs)) z.are ∙ ap (sizes_meant number_of) (sym z.told) in
+          ap (option_and_then (attribute_meant code)) (one_at es segment_sizes (attrs.SegmentSizes z.sizes) l z.has key)
+          ∙ map_one (attribute_meant code) (bytes_eq key segment_sizes) (attrs.SegmentSizes z.sizes)
+          ∙ ap (λ (a : Option Attribute). cond (bytes_eq key segment_sizes) a None) same
+
       bare_meant : length es ≡ 0 → (key : List ℕ) → option_and_then (attribute_meant code) (attribute_at es key) ≡ None
       bare_meant l key =
           ap (λ (xs : Entries). option_and_then (attribute_meant code) (attribute_at xs key)) (no_entries es l)
@@ -255,7 +269,8 @@ module _ (number_of : ValueTree → ℕ) (code : TypeHandle → ℕ) where
       attributes_meant ops.Emit e = bare_meant (counted ops.Emit es n (types_of vs) kind said e)
       attributes_meant ops.Return e = bare_meant (counted ops.Return es n (types_of vs) kind said e)
       attributes_meant ops.Br e = bare_meant (counted ops.Br es n (types_of vs) kind said e)
-      attributes_meant ops.CondBr e = bare_meant (counted ops.CondBr es n (types_of vs) kind said e)
+      attributes_meant ops.CondBr e = condition_meant (sizes_shown keys ops.CondBr es n (types_of vs) kind said ps e shown refl)
+          (counted ops.CondBr es n (types_of vs) kind said e)
       attributes_meant ops.Call e = call_meant (read keys es n (types_of vs) kind said ps shown ops.Call e)
           (counted ops.Call es n (types_of vs) kind said e)
       attributes_meant ops.ForwardRef e = bare_meant (counted ops.ForwardRef es n (types_of vs) kind said e)

@@ -1,4 +1,5 @@
--- What a tree of texts means, by numbers of types: the tree without names that it says, and the numbers of its values.
+-- What a tree of texts means, by numbers of types: the tree without names that it says, and the numbers of its values and
+-- of the blocks that it names.
 use Rattle.std.proofs.Common.{ℕ, cond, List, [], ◌∷◌, ◌++◌, map, Option, Some, None, slice_get, bytes_eq}
 use Rattle.std.specs.Prelude.{unwrap_or}
 use Rattle.ir_names.specs.Tree.{no_tree}
@@ -11,11 +12,11 @@ use Rattle.ir_trees.proofs.Alike.{nothing}
 use Rattle.kit_ops.specs.declared.kinds.KitOp.{KitOp}
 use Rattle.kit_ops.specs.declared.kinds.KitOp.TheVariants as ops
 use Rattle.kit_ops.specs.declared.types.IntegerType.{IntegerType}
-use Rattle.kit_ops.specs.Keys.{symbol_name, function_type, constant_value, callee, callee_type}
+use Rattle.kit_ops.specs.Keys.{symbol_name, function_type, constant_value, callee, callee_type, segment_sizes}
 use Rattle.kit.specs.Forms.{read_ops}
-use Rattle.kit_text_programs.proofs.SaidPrograms.{name_said, bits_said, numbers_in}
+use Rattle.kit_text_programs.proofs.SaidPrograms.{name_said, bits_said, numbers_in, sizes_read}
 use Rattle.kit_text_programs.proofs.ReadHeads.{type_read, callee_read, integer_read}
-use Rattle.kit_text_programs.specs.Meanings.{Attribute, Integer, Name, OfType, OperationMeaning, sayings, alone_at}
+use Rattle.kit_text_programs.specs.Meanings.{Attribute, Integer, Name, OfType, Sizes, OperationMeaning, sayings, alone_at}
 
 -- results or arguments of texts
 abbrev pub Written : Type 0
@@ -27,9 +28,9 @@ kind_said n = unwrap_or (slice_get read_ops n) ops.Module
 
 -- the numbers of the values that a head names
 abbrev pub head_values : TextHead ℕ → List ℕ
-head_values (operation kind results used pieces) = numbers_in results ++ used
+head_values (operation kind results used successors pieces) = numbers_in results ++ used
 head_values a_region = []
-head_values (block label arguments) = numbers_in arguments
+head_values (block named label arguments) = numbers_in arguments
 
 -- the numbers of the values in trees of texts
 abbrev pub all_values : Entities ℕ → List ℕ
@@ -39,11 +40,30 @@ all_values (an_entity (entity h us) ts) = head_values h ++ (all_values us ++ all
 abbrev pub root_values : Entity ℕ → List ℕ
 root_values (entity h us) = head_values h ++ all_values us
 
+-- the numbers of the blocks that a head names: its own, or those that it may go on to
+abbrev pub head_blocks : TextHead ℕ → List ℕ
+head_blocks (operation kind results used successors pieces) = successors
+head_blocks a_region = []
+head_blocks (block named label arguments) = named ∷ []
+
+-- the numbers of the blocks that are named in trees of texts
+abbrev pub all_blocks : Entities ℕ → List ℕ
+all_blocks no_entity = []
+all_blocks (an_entity (entity h us) ts) = head_blocks h ++ (all_blocks us ++ all_blocks ts)
+
+abbrev pub root_blocks : Entity ℕ → List ℕ
+root_blocks (entity h us) = head_blocks h ++ all_blocks us
+
 module _ (number : ValueTree → ℕ) where
   -- the type of a function, where one is read: its own, or the one that a call says
   abbrev pub type_meant : Option ValueTree → Option Attribute
   type_meant None = None
   type_meant (Some t) = Some (OfType (number t))
+
+  -- the sizes of segments, where they are read
+  abbrev pub sizes_meant : Option (List ℕ) → Option Attribute
+  sizes_meant None = None
+  sizes_meant (Some sizes) = Some (Sizes sizes)
 
   -- the number of the first type
   abbrev pub first_number : Written → ℕ
@@ -64,6 +84,7 @@ module _ (number : ValueTree → ℕ) where
       cond (bytes_eq key constant_value) (integer_meant (first_number rs) (integer_read ps) (bits_said ps)) None
   attributes_said ops.Call rs ps key = cond (bytes_eq key callee) (Some (Name (name_said ps)))
       (cond (bytes_eq key callee_type) (type_meant (callee_read ps)) None)
+  attributes_said ops.CondBr rs ps key = cond (bytes_eq key segment_sizes) (sizes_meant (sizes_read ps)) None
   attributes_said _ rs ps key = None
 
   abbrev pub operation_said : ℕ → Written → Pieces → OperationMeaning
@@ -73,13 +94,13 @@ module _ (number : ValueTree → ℕ) where
   abbrev pub defined_said : ℕ × ValueTree → Defined (Unit {0}) ℕ
   defined_said r = record { name = tt; holds = number r.1 }
 
-  abbrev pub head_said : ℕ → Written → List ℕ → Pieces → Head no_names sayings
-  head_said kind results used pieces = record {
+  abbrev pub head_said : ℕ → Written → List ℕ → List ℕ → Pieces → Head no_names sayings
+  head_said kind results used successors pieces = record {
     name = tt;
     content = operation_said kind results pieces;
     results = map defined_said results;
     operands = map (nothing {X = ℕ}) used;
-    successors = [];
+    successors = map (nothing {X = ℕ}) successors;
   }
 
   abbrev pub label_said : Written → Label no_names sayings
@@ -88,28 +109,28 @@ module _ (number : ValueTree → ℕ) where
   abbrev mutual
     pub operations_said : Entities ℕ → Tree no_names sayings Operations
     operations_said no_entity = end
-    operations_said (an_entity (entity (operation kind results used pieces) us) ts) =
-        trees.operation (head_said kind results used pieces) (regions_said us) (operations_said ts)
+    operations_said (an_entity (entity (operation kind results used successors pieces) us) ts) =
+        trees.operation (head_said kind results used successors pieces) (regions_said us) (operations_said ts)
     operations_said (an_entity (entity a_region us) ts) = end
-    operations_said (an_entity (entity (block label arguments) us) ts) = end
+    operations_said (an_entity (entity (block named label arguments) us) ts) = end
 
     pub blocks_said : Entities ℕ → Tree no_names sayings Blocks
     blocks_said no_entity = end
-    blocks_said (an_entity (entity (block label arguments) us) ts) =
+    blocks_said (an_entity (entity (block named label arguments) us) ts) =
         trees.block (label_said arguments) (operations_said us) (blocks_said ts)
     blocks_said (an_entity (entity a_region us) ts) = end
-    blocks_said (an_entity (entity (operation kind results used pieces) us) ts) = end
+    blocks_said (an_entity (entity (operation kind results used successors pieces) us) ts) = end
 
     pub regions_said : Entities ℕ → Tree no_names sayings Regions
     regions_said no_entity = end
     regions_said (an_entity (entity a_region us) ts) = trees.region (blocks_said us) (regions_said ts)
-    regions_said (an_entity (entity (block label arguments) us) ts) = end
-    regions_said (an_entity (entity (operation kind results used pieces) us) ts) = end
+    regions_said (an_entity (entity (block named label arguments) us) ts) = end
+    regions_said (an_entity (entity (operation kind results used successors pieces) us) ts) = end
 
   abbrev pub root_head : TextHead ℕ → Head no_names sayings
-  root_head (operation kind results used pieces) = head_said kind results used pieces
-  root_head a_region = head_said 0 [] [] no_tree
-  root_head (block label arguments) = head_said 0 [] [] no_tree
+  root_head (operation kind results used successors pieces) = head_said kind results used successors pieces
+  root_head a_region = head_said 0 [] [] [] no_tree
+  root_head (block named label arguments) = head_said 0 [] [] [] no_tree
 
   -- the tree that a text of an operation says
   abbrev pub root_said : Entity ℕ → Root no_names sayings

@@ -1,12 +1,14 @@
 -- Lists of names that are alike: those of which none comes twice, and those of values with their numbers.
-use Rattle.std.proofs.Common.{◌≡◌, ◌↔◌, ℕ, List, Option, Some, None, option_map, slice_get, refl, sym, ap, ◌∙◌}
+use Rattle.std.proofs.Common.{◌≡◌, ◌↔◌, ℕ, List, Option, Some, None, option_map, slice_get, refl, sym, ap, ◌∙◌, subst}
 use Rattle.std.proofs.lemmas.Option.{none-some, same_Some, slice_get-map}
 use Rattle.ir_print.specs.Shown.{Pairs}
+use Rattle.ir_program.specs.declared.handles.BasicBlock.{BasicBlock}
+use Rattle.ir_program.specs.declared.handles.Ptr.{Ptr}
 use Rattle.ir_program.specs.declared.handles.Value.{Value}
 use Rattle.ir_trees.specs.Renames.{RepeatAlike}
 use Rattle.ir_trees.specs.Searched.{AreDistinct}
 use Rattle.ir_trees.proofs.Alike.{nothing, AsLong}
-use Rattle.text_rereading.specs.Rereading.{Named}
+use Rattle.text_rereading.specs.Rereading.{Numbering, Named}
 use Rattle.kit_text_programs.specs.Laws.{HaveOwnNumbers}
 use Rattle.kit_text_programs.specs.Alike.{AreBoth}
 use Rattle.kit_text_programs.proofs.AlikeLists.{both_at}
@@ -34,9 +36,9 @@ pub distinct_alike : {X Y : Type 0} (xs : List X) (ys : List Y) → AreDistinct 
     → RepeatAlike xs ys
 distinct_alike xs ys a b long j k = (same_there xs ys a long j k, same_there ys xs b (sym long) j k)
 
-module _ (values : List Value) (own : HaveOwnNumbers values) where
-  both_same : (o p : Option Value) (m n : Option ℕ) → AreBoth (Named values) o m → AreBoth (Named values) p n
-      → (o ≡ p) ↔ (m ≡ n)
+module _ {X : Type 0} (R : X → ℕ → Type 0) (single : (x y : X) (n : ℕ) → R x n → R y n → x ≡ y)
+    (own : (x : X) (n m : ℕ) → R x n → R x m → n ≡ m) where
+  both_same : (o p : Option X) (m n : Option ℕ) → AreBoth R o m → AreBoth R p n → (o ≡ p) ↔ (m ≡ n)
   both_same None p (Some m) n a b = absurd a
   both_same (Some v) p None n a b = absurd a
   both_same None None None None a b = ((λ e. refl), (λ e. refl))
@@ -48,11 +50,22 @@ module _ (values : List Value) (own : HaveOwnNumbers values) where
   both_same (Some v) None (Some m) (Some n) a b = absurd b
   both_same (Some v) (Some w) (Some m) None a b = absurd b
   both_same (Some v) (Some w) (Some m) (Some n) a b = (
-    (λ e. ap Some (own m n v w a b (ap (λ (x : Value). x.number) (same_Some v w e)))),
-    (λ e. sym a ∙ ap (slice_get values) (same_Some m n e) ∙ b),
+    (λ e. ap Some (own w m n (subst (λ x. R x m) (same_Some v w e) a) b)),
+    (λ e. ap Some (single v w n (subst (λ k. R v k) (same_Some m n e) a) b)),
   )
 
-  -- values are alike their numbers
-  pub numbers_alike : (vs : List Value) (ns : List ℕ) → Pairs (Named values) vs ns → RepeatAlike vs ns
+  -- what has numbers is alike them
+  pub numbers_alike : (vs : List X) (ns : List ℕ) → Pairs R vs ns → RepeatAlike vs ns
   numbers_alike vs ns h j k = both_same (slice_get vs j) (slice_get vs k) (slice_get ns j) (slice_get ns k)
-      (both_at (Named values) vs ns h j) (both_at (Named values) vs ns h k)
+      (both_at R vs ns h j) (both_at R vs ns h k)
+
+-- values and blocks are alike their numbers
+pub values_alike : (numbering : Numbering) → HaveOwnNumbers numbering → (vs : List Value) (ns : List ℕ)
+    → Pairs (Named numbering).value vs ns → RepeatAlike vs ns
+values_alike numbering own vs ns h = numbers_alike (Named numbering).value (λ v w n a b. same_Some v w (sym a ∙ b))
+    (λ v n m a b. own.values n m v v a b refl) vs ns h
+
+pub blocks_alike : (numbering : Numbering) → HaveOwnNumbers numbering → (bs : List (Ptr BasicBlock)) (ns : List ℕ)
+    → Pairs (Named numbering).block bs ns → RepeatAlike bs ns
+blocks_alike numbering own bs ns h = numbers_alike (Named numbering).block (λ b c n x y. same_Some b c (sym x ∙ y))
+    (λ b n m x y. own.blocks n m b x y) bs ns h

@@ -6,6 +6,7 @@ use Rattle.ir_forest.specs.Closed.{unlabelled_head, unlabelled, all_unlabelled}
 use Rattle.ir_print.specs.Pieces.{ValueTree, a_region, Entity, entity, Entities, no_entity, an_entity}
 use Rattle.ir_print.specs.Pieces as texts
 use Rattle.ir_print.specs.Shown.{Pairs}
+use Rattle.ir_program.specs.declared.handles.BasicBlock.{BasicBlock}
 use Rattle.ir_program.specs.declared.handles.Operation.{Operation}
 use Rattle.ir_program.specs.declared.handles.Ptr.{Ptr}
 use Rattle.ir_program.specs.declared.handles.Value.{Value}
@@ -14,7 +15,7 @@ use Rattle.ir_trees.specs.Searched.{AreDistinct, heads_in, operation_names}
 use Rattle.ir_trees.specs.Stands.{by_handle}
 use Rattle.ir_trees.specs.Trees.{Head, Sort, Tree, end, operation, block, region, Root}
 use Rattle.ir_trees.proofs.Alike.{alike_back, alike_on}
-use Rattle.ir_trees.proofs.Renamed.{operation_names_renamed, blocks_renamed}
+use Rattle.ir_trees.proofs.Renamed.{operation_names_renamed}
 use Rattle.opt_meanings.specs.Meanings.{mean, mean_root}
 use Rattle.opt_trees.specs.Occurrences.{Has}
 use Rattle.text_dialect.specs.Seen.{seen}
@@ -29,15 +30,15 @@ use Rattle.kit_text_programs.specs.SameLaws.{types_of_head, types_in_text, types
 use Rattle.kit_text_programs.specs.SameLaws.{OneTextSaysTheSame}
 use Rattle.kit_text_programs.specs.Meanings.{sayings, meanings}
 use Rattle.kit_text_programs.proofs.SaidTexts.MeantTrees.{IsSaidRoot, root_means}
-use Rattle.kit_text_programs.proofs.SaidTexts.SaidMeanings.{root_said, root_values}
-use Rattle.kit_text_programs.proofs.SaidTexts.SameLists.{distinct_alike, numbers_alike}
+use Rattle.kit_text_programs.proofs.SaidTexts.SaidMeanings.{root_said, root_values, root_blocks}
+use Rattle.kit_text_programs.proofs.SaidTexts.SameLists.{distinct_alike, values_alike, blocks_alike}
 
 -- ---- types of texts without labels
 
 head_types : (h : texts.EntityHead ℕ) → types_of_head (unlabelled_head h) ≡ types_of_head h
-head_types (texts.operation kind results used pieces) = refl
+head_types (texts.operation kind results used successors pieces) = refl
 head_types a_region = refl
-head_types (texts.block label arguments) = refl
+head_types (texts.block named label arguments) = refl
 
 mutual
   -- a text says the types that it says without its labels
@@ -85,10 +86,10 @@ module _ (number : ValueTree → ℕ) where
   -- what stands for a text means what the text says without its labels
   stands_said : (code : TypeHandle → ℕ) (text : Entity ℕ) (s : WritableContext) (root : Ptr Operation) (t : WritableTree)
       (a : StandsAs text s root t) → HaveTextNumbers number code s text
-      → IsSaidRoot number code s a.values a.distinct t (unlabelled text)
+      → IsSaidRoot number code s a.numbering a.distinct t (unlabelled text)
   stands_said code text s root t a n =
-      root_means number code s a.values a.distinct (unlabelled text) root t
-      (unlabelled_tree says (Named a.values) (seen s) text root a.stands) a.is_tree
+      root_means number code s a.numbering a.distinct (unlabelled text) root t
+      (unlabelled_tree says (Named a.numbering) (seen s) text root a.stands) a.is_tree
       (λ h r shown has. n h r shown (subst (Has r) (unlabelled_types text) has))
 
   module _ (code other_code : TypeHandle → ℕ) (t u : WritableTree) where
@@ -105,11 +106,6 @@ module _ (number : ValueTree → ℕ) where
         (subst AreDistinct (sym (root_names other_code u)) b.operations)
         (sym (operation_names_renamed forget here) ∙ ap operation_names shape ∙ operation_names_renamed forget there)
 
-    blocks_alike : rename_root forget here ≡ rename_root forget there → AreDistinct (blocks_of here)
-        → AreDistinct (blocks_of there) → RepeatAlike (blocks_of here) (blocks_of there)
-    blocks_alike shape a b = distinct_alike (blocks_of here) (blocks_of there) a b
-        (sym (blocks_renamed forget here) ∙ ap blocks_of shape ∙ blocks_renamed forget there)
-
 pub one_text : OneTextSaysTheSame
 one_text number code other_code text other s z root there t u same a b n m =
     let x = stands_said number code text s root t a n in
@@ -117,14 +113,18 @@ one_text number code other_code text other s z root there t u same a b n m =
     let ns : List ℕ = root_values (unlabelled text) in
     let here : List Value = values_of (mean_root (meanings code) t) in
     let too : List Value = values_of (mean_root (meanings other_code) u) in
+    let bs : List ℕ = root_blocks (unlabelled text) in
+    let blocks : List (Ptr BasicBlock) = blocks_of (mean_root (meanings code) t) in
+    let blocks_too : List (Ptr BasicBlock) = blocks_of (mean_root (meanings other_code) u) in
     let shape : rename_root forget (mean_root (meanings code) t) ≡ rename_root forget (mean_root (meanings other_code) u) =
     x.shape ∙ ap (root_said number) same ∙ sym y.shape in
     record {
       shape = shape;
       operations = operations_alike number code other_code t u shape a.names b.names;
-      blocks = blocks_alike number code other_code t u shape (subst AreDistinct (sym x.blocks) a.names.blocks)
-          (subst AreDistinct (sym y.blocks) b.names.blocks);
-      values = alike_on here ns too (numbers_alike a.values a.distinct here ns x.named)
-          (alike_back too ns (numbers_alike b.values b.distinct too ns
-          (subst (λ (ks : List ℕ). Pairs (Named b.values) too ks) (sym (ap root_values same)) y.named)));
+      blocks = alike_on blocks bs blocks_too (blocks_alike a.numbering a.distinct blocks bs x.blocks)
+          (alike_back blocks_too bs (blocks_alike b.numbering b.distinct blocks_too bs
+          (subst (λ (ks : List ℕ). Pairs (Named b.numbering).block blocks_too ks) (sym (ap root_blocks same)) y.blocks)));
+      values = alike_on here ns too (values_alike a.numbering a.distinct here ns x.named)
+          (alike_back too ns (values_alike b.numbering b.distinct too ns
+          (subst (λ (ks : List ℕ). Pairs (Named b.numbering).value too ks) (sym (ap root_values same)) y.named)));
     }

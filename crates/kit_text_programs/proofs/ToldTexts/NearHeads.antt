@@ -7,7 +7,7 @@ use Rattle.ir_forest.specs.Bare.{AreBare}
 use Rattle.ir_names.specs.Dictionary.{attribute_at}
 use Rattle.ir_names.specs.Identifier.{text_of}
 use Rattle.ir_names.specs.Tree.{no_tree, a_tree}
-use Rattle.ir_print.specs.Pieces.{operands, region, name, ValueTree, Pieces, operation}
+use Rattle.ir_print.specs.Pieces.{operands, successor, region, name, ValueTree, Pieces, operation}
 use Rattle.ir_print.specs.Shown.{said_type, leaf, Pairs, ShowsType}
 use Rattle.ir_program.specs.Program.{OperationView, TypedValue}
 use Rattle.ir_program.specs.declared.handles.Value as handles
@@ -19,21 +19,21 @@ use Rattle.opt_trees.proofs.NoneDead.{has-left, has-right}
 use Rattle.opt_trees.specs.Occurrences.{Has}
 use Rattle.text_dialect.specs.Seen.{types_of, seen_operation}
 use Rattle.text_dialect.specs.Standing.{HasDefinition, HasHead}
-use Rattle.text_rereading.specs.Rereading.{Named}
+use Rattle.text_rereading.specs.Rereading.{Numbering, Named}
 use Rattle.kit.specs.Meaning.{KitOperation}
 use Rattle.kit_ops.specs.declared.attributes.IntegerAttr.{IntegerAttr}
 use Rattle.kit_ops.specs.declared.attributes.KitAttr.{KitAttr}
 use Rattle.kit_ops.specs.declared.attributes.KitAttr.TheVariants as attrs
 use Rattle.kit_ops.specs.declared.types.KitType.{KitType}
-use Rattle.kit_ops.specs.Keys.{symbol_name, function_type, constant_value, callee, callee_type}
+use Rattle.kit_ops.specs.Keys.{symbol_name, function_type, constant_value, callee, callee_type, segment_sizes}
 use Rattle.kit.specs.Forms.{OpForm, NamedRegion, TypedRegion, Value, TwoOperands, OneOperand, AnyOperands, Empty}
-use Rattle.kit.specs.Forms.{Called}
+use Rattle.kit.specs.Forms.{Called, Edge, ConditionEdges}
 use Rattle.kit.specs.Forms.{form_of, number_of}
 use Rattle.kit.specs.Says.{says, one, two}
 use Rattle.kit.specs.Seen.{seen}
 use Rattle.kit_text_programs.proofs.SaidHeads.{said_parts}
 use Rattle.kit_text_programs.specs.SameLaws.{types_among}
-use Rattle.kit_text_programs.specs.Meanings.{Attribute, Integer, Name, OfType, OperationMeaning, Number, number_meant}
+use Rattle.kit_text_programs.specs.Meanings.{Attribute, Integer, Name, OfType, Sizes, OperationMeaning, Number, number_meant}
 use Rattle.kit_text_programs.specs.Meanings.{attribute_meant}
 use Rattle.kit_text_programs.specs.Meanings.{operation_meant}
 use Rattle.kit_text_programs.proofs.ToldTexts.SideBySide.{pairs_long}
@@ -57,6 +57,18 @@ types_one n m e = cc
 -- integers that mean the same are the same
 integers_one : (n m : Number) → ◌≡◌ {A = Option Attribute} (Some (Integer n)) (Some (Integer m)) → n ≡ m
 integers_one n m e = cc
+
+-- sizes that mean the same are the same
+sizes_one : (xs ys : List ℕ) → ◌≡◌ {A = Option Attribute} (Some (Sizes xs)) (Some (Sizes ys)) → xs ≡ ys
+sizes_one xs ys e = cc
+
+-- sizes of two edges that are the same
+edges_one : (a c b d : ℕ) → 1 ∷ a ∷ b ∷ [] ≡ 1 ∷ c ∷ d ∷ [] → (a ≡ c) × (b ≡ d)
+edges_one a c b d e =
+    let rest : a ∷ b ∷ [] ≡ c ∷ d ∷ [] = cc in
+    let first : a ≡ c = cc in
+    let tail : b ∷ [] ≡ d ∷ [] = cc in
+    let second : b ≡ d = cc in (first, second)
 
 -- the piece of an integer is that of its type and its bits
 integer_pieces : (a b : IntegerAttr) → a.integer ≡ b.integer → a.bits ≡ b.bits → integer_piece a ≡ integer_piece b
@@ -140,6 +152,13 @@ module _ (keys others : List KitType) (code other : TypeHandle → ℕ) (A B : V
       let one_type = apart h.1 k.1 h.2 k.2 (a h.2 (type_first keys h.1 h.2 no_tree h.5))
       (b k.2 (type_first others k.1 k.2 no_tree k.5)) h.5 k.5 codes in
       h.6 ∙ ((λ i. a_tree (plain (name (names i))) (two (plain (operands (count i))) (one_type i))) ∙ sym k.6)
+  told_same Edge es fs n m tys us ps qs h k means count types here there =
+      h ∙ (ap (λ (i : ℕ). one (plain (successor i))) count ∙ sym k)
+  told_same ConditionEdges es fs n m tys us ps qs h k means count types here there =
+      let sizes = sizes_one h.0.items k.0.items (at_both code other (attribute_at es segment_sizes)
+      (attribute_at fs segment_sizes) (attrs.SegmentSizes h.0) (attrs.SegmentSizes k.0) (means segment_sizes) h.3 k.3) in
+      let both = edges_one h.1 k.1 h.2 k.2 (sym h.4 ∙ (sizes ∙ k.4)) in
+      h.5 ∙ ((λ i. a_tree (plain (operands 1)) (two (plain (successor (both.0 i))) (plain (successor (both.1 i))))) ∙ sym k.5)
 
 -- ---- heads
 
@@ -172,10 +191,10 @@ codes_same code other vs us e =
     holds_of (w ∷ ws) f = ap (λ (ns : List ℕ). f w.ty ∷ ns) (holds_of ws f)
 
 module _ (keys others : List KitType) (code other : TypeHandle → ℕ) (A B : ValueTree → Type 0)
-    (apart : AreApart keys others code other A B) (values numbers : List handles.Value) where
+    (apart : AreApart keys others code other A B) (numbering numbers : Numbering) where
   -- definitions of types with the same codes have one type each
   pub definitions_near : (vs us : List TypedValue) (xs ys : Definitions)
-      → Pairs (HasDefinition says (Named values) keys) vs xs → Pairs (HasDefinition says (Named numbers) others) us ys
+      → Pairs (HasDefinition says (Named numbering) keys) vs xs → Pairs (HasDefinition says (Named numbers) others) us ys
       → definitions_meant code vs ≡ definitions_meant other us → Each A (map (λ (r : ℕ × ValueTree). r.1) xs)
       → Each B (map (λ (r : ℕ × ValueTree). r.1) ys) → Pairs OfOneType xs ys
   definitions_near [] [] [] [] h k e a b = tt
@@ -199,16 +218,17 @@ module _ (keys others : List KitType) (code other : TypeHandle → ℕ) (A B : V
 
   -- operations that say the same have heads that are the same but for numbers
   pub heads_near : (v u : OperationView KitOperation) (kind kind_there : ℕ) (results again : Definitions)
-      (used taken : List ℕ) (pieces said : Pieces)
-      → HasHead says (Named values) keys (seen_operation v) kind results used pieces
-      → HasHead says (Named numbers) others (seen_operation u) kind_there again taken said
+      (used taken successors going : List ℕ) (pieces said : Pieces)
+      → HasHead says (Named numbering) keys (seen_operation v) kind results used successors pieces
+      → HasHead says (Named numbers) others (seen_operation u) kind_there again taken going said
       → operation_meant code v.payload ≡ operation_meant other u.payload
       → definitions_meant code v.results ≡ definitions_meant other u.results → length v.operands ≡ length u.operands
-      → Each A (map (λ (r : ℕ × ValueTree). r.1) results ++ types_among pieces)
+      → length v.successors ≡ length u.successors → Each A (map (λ (r : ℕ × ValueTree). r.1) results ++ types_among pieces)
       → Each B (map (λ (r : ℕ × ValueTree). r.1) again ++ types_among said)
       → AreBare pieces → AreBare said
-      → AreNearHeads (operation kind results used pieces) (operation kind_there again taken said)
-  heads_near v u kind kind_there results again used taken pieces said h k meant types count a b bare too =
+      → AreNearHeads (operation kind results used successors pieces) (operation kind_there again taken going said)
+  heads_near v u kind kind_there results again used taken successors going pieces said h k meant types count goes a b bare
+      too =
       let p = said_parts v.payload.kind v.payload.notes.attributes (length v.operands) (types_of v.results) kind
       h.said h.says_it in
       let q = said_parts u.payload.kind u.payload.notes.attributes (length u.operands) (types_of u.results) kind_there
@@ -227,8 +247,10 @@ module _ (keys others : List KitType) (code other : TypeHandle → ℕ) (A B : V
         definitions_near v.results u.results results again h.defines k.defines types
             (λ r is. a r (has-left r firsts (types_among pieces) is))
             (λ r is. b r (has-left r seconds (types_among said) is)),
-        sym (pairs_long (Named values) v.operands used h.mentions)
-            ∙ (count ∙ pairs_long (Named numbers) u.operands taken k.mentions),
+        sym (pairs_long (Named numbering).value v.operands used h.mentions)
+            ∙ (count ∙ pairs_long (Named numbers).value u.operands taken k.mentions),
+        sym (pairs_long (Named numbering).block v.successors successors h.goes_on)
+            ∙ (goes ∙ pairs_long (Named numbers).block u.successors going k.goes_on),
         told_same keys others code other A B apart p.0 v.payload.notes.attributes u.payload.notes.attributes
             (length v.operands) (length u.operands) (types_of v.results) (types_of u.results) pieces said here there
             (λ key. ap (λ (c : OperationMeaning). c.attributes key) meant) count

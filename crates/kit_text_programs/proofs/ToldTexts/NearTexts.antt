@@ -4,7 +4,7 @@ use Rattle.ir_base.specs.declared.types.TypeHandle.{TypeHandle}
 use Rattle.ir_forest.specs.Bare.{AreBareTrees}
 use Rattle.ir_print.specs.Pieces.{ValueTree, Entities}
 use Rattle.ir_print.specs.Pieces as written
-use Rattle.ir_program.specs.declared.handles.Value.{Value}
+use Rattle.text_rereading.specs.Rereading.{Numbering}
 use Rattle.ir_trees.specs.Renames.{no_names, forget, rename}
 use Rattle.ir_trees.specs.Trees.{Head, Label, Sort, Operations, Blocks, Regions, Tree, end, operation, block, region}
 use Rattle.opt_meanings.specs.Meanings.{mean}
@@ -69,13 +69,12 @@ long_map : {X Y : Type 0} (f : X → Y) (xs : List X) → length (map f xs) ≡ 
 long_map f [] = refl
 long_map f (x ∷ xs) = ap suc (long_map f xs)
 
--- values without their names are as many
-pub units_long : (vs us : List Value)
-    → map {A = Value} {B = Unit {0}} (λ _. tt) vs ≡ map {A = Value} {B = Unit {0}} (λ _. tt) us
+-- lists without their names are as long
+pub units_long : {X : Type 0} (vs us : List X) → map {A = X} {B = Unit {0}} (λ _. tt) vs ≡ map {A = X} {B = Unit {0}} (λ _. tt) us
     → length vs ≡ length us
-units_long vs us e =
-    sym (long_map {X = Value} {Y = Unit {0}} (λ _. tt) vs)
-    ∙ (ap length e ∙ long_map {X = Value} {Y = Unit {0}} (λ _. tt) us)
+units_long {X} vs us e =
+    sym (long_map {X = X} {Y = Unit {0}} (λ _. tt) vs)
+    ∙ (ap length e ∙ long_map {X = X} {Y = Unit {0}} (λ _. tt) us)
 
 -- what is said in a part, without names
 abbrev pub shape_in : {k : Sort} → (TypeHandle → ℕ) → KitPart k → Shape k
@@ -93,32 +92,33 @@ back P xs ys a r is = a r (has-right r xs ys is)
 
 -- ---- trees
 
-module _ (s z : WritableContext) (values others : List Value) (code other : TypeHandle → ℕ) (A B : ValueTree → Type 0)
+module _ (s z : WritableContext) (numbering others : Numbering) (code other : TypeHandle → ℕ) (A B : ValueTree → Type 0)
     (apart : AreApart s.types.keys z.types.keys code other A B) where
   -- texts of parts of one shape are the same but for labels and numbers
-  pub texts_near : (k : Sort) (x y : KitPart k) (ts us : Entities ℕ) → AreSaid s values k x ts → AreSaid z others k y us
+  pub texts_near : (k : Sort) (x y : KitPart k) (ts us : Entities ℕ) → AreSaid s numbering k x ts → AreSaid z others k y us
       → shape_in code x ≡ shape_in other y → Each A (types_in_texts ts) → Each B (types_in_texts us)
       → AreBareTrees ts → AreBareTrees us → AreAllNear ts us
   texts_near k x y ts us no_operations no_operations e a b bare too = tt
-  texts_near k x y ts us no_operations (an_operation p v rs rest kind results used pieces vs ws head inside after) e a b
+  texts_near k x y ts us no_operations (an_operation p v rs rest kind results used successors pieces vs ws head inside after) e a b
       bare too =
       absurd (no_operation _ _ _ e)
-  texts_near k x y ts us (an_operation p v rs rest kind results used pieces vs ws head inside after) no_operations e a b
+  texts_near k x y ts us (an_operation p v rs rest kind results used successors pieces vs ws head inside after) no_operations e a b
       bare too =
       absurd (no_operation _ _ _ (sym e))
-  texts_near k x y ts us (an_operation p v rs rest kind results used pieces vs ws head inside after)
-      (an_operation q u qs more kind_there again taken said ms os top within behind) e a b bare too =
+  texts_near k x y ts us (an_operation p v rs rest kind results used successors pieces vs ws head inside after)
+      (an_operation q u qs more kind_there again taken going said ms os top within behind) e a b bare too =
       let parts = operations_one _ _ (shape_in code rs) (shape_in other qs) (shape_in code rest) (shape_in other more)
       e in
-      let firsts = types_of_head (written.operation kind results used pieces) in
-      let bs = types_of_head (written.operation kind_there again taken said) in
+      let firsts = types_of_head (written.operation kind results used successors pieces) in
+      let bs = types_of_head (written.operation kind_there again taken going said) in
       let here = front A (firsts ++ types_in_texts vs) (types_in_texts ws) a in
       let there = front B (bs ++ types_in_texts ms) (types_in_texts os) b in (
         (
-          heads_near s.types.keys z.types.keys code other A B apart values others v u kind kind_there results again used
-              taken pieces said head top (ap (λ (h : ShapeHead). h.content) parts.0)
+          heads_near s.types.keys z.types.keys code other A B apart numbering others v u kind kind_there results again used
+              taken successors going pieces said head top (ap (λ (h : ShapeHead). h.content) parts.0)
               (ap (λ (h : ShapeHead). h.results) parts.0)
               (units_long v.operands u.operands (ap (λ (h : ShapeHead). h.operands) parts.0))
+              (units_long v.successors u.successors (ap (λ (h : ShapeHead). h.successors) parts.0))
               (front A firsts (types_in_texts vs) here) (front B bs (types_in_texts ms) there) bare.0.0 too.0.0,
           texts_near Regions rs qs vs ms inside within parts.1 (back A firsts (types_in_texts vs) here)
               (back B bs (types_in_texts ms) there) bare.0.1 too.0.1,
@@ -128,19 +128,19 @@ module _ (s z : WritableContext) (values others : List Value) (code other : Type
             (back B (bs ++ types_in_texts ms) (types_in_texts os) b) bare.1 too.1,
       )
   texts_near k x y ts us no_blocks no_blocks e a b bare too = tt
-  texts_near k x y ts us no_blocks (a_block p v os rest label arguments vs ws defines inside after) e a b bare too =
+  texts_near k x y ts us no_blocks (a_block p v os rest named label arguments vs ws name defines inside after) e a b bare too =
       absurd (no_block _ _ _ e)
-  texts_near k x y ts us (a_block p v os rest label arguments vs ws defines inside after) no_blocks e a b bare too =
+  texts_near k x y ts us (a_block p v os rest named label arguments vs ws name defines inside after) no_blocks e a b bare too =
       absurd (no_block _ _ _ (sym e))
-  texts_near k x y ts us (a_block p v os rest label arguments vs ws defines inside after)
-      (a_block q u qs more label_there again ms ns has within behind) e a b bare too =
+  texts_near k x y ts us (a_block p v os rest named label arguments vs ws name defines inside after)
+      (a_block q u qs more named_there label_there again ms ns name_there has within behind) e a b bare too =
       let parts = blocks_one _ _ (shape_in code os) (shape_in other qs) (shape_in code rest) (shape_in other more) e in
       let firsts = map (λ (r : ℕ × ValueTree). r.1) arguments in
       let bs = map (λ (r : ℕ × ValueTree). r.1) again in
       let here = front A (firsts ++ types_in_texts vs) (types_in_texts ws) a in
       let there = front B (bs ++ types_in_texts ms) (types_in_texts ns) b in (
         (
-          definitions_near s.types.keys z.types.keys code other A B apart values others v.arguments u.arguments
+          definitions_near s.types.keys z.types.keys code other A B apart numbering others v.arguments u.arguments
               arguments again defines has (ap (λ (l : ShapeLabel). l.arguments) parts.0)
               (front A firsts (types_in_texts vs) here) (front B bs (types_in_texts ms) there),
           texts_near Operations os qs vs ms inside within parts.1 (back A firsts (types_in_texts vs) here)

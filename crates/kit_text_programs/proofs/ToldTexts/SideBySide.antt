@@ -3,11 +3,8 @@ use Rattle.std.proofs.Common.{◌≡◌, ◌⊎◌, ⊎_elim, inl, inr, ℕ, zer
 use Rattle.std.proofs.Common.{sym, ap, ◌∙◌, subst, arith}
 use Rattle.std.proofs.lemmas.Option.{same_Some}
 use Rattle.ir_print.specs.Shown.{Pairs}
-use Rattle.ir_program.specs.declared.handles.Value.{Value}
 use Rattle.ir_trees.specs.Renames.{RepeatAlike}
 use Rattle.opt_trees.specs.Occurrences.{Has}
-use Rattle.text_rereading.specs.Rereading.{Named}
-use Rattle.kit_text_programs.specs.Laws.{HaveOwnNumbers}
 
 -- ---- places
 
@@ -136,18 +133,19 @@ module _ {X Y : Type 0} (R : X → Y → Type 0) where
 
 -- ---- numbers
 
--- Values that are alike in two lists have the same numbers, where each number of the first stands somewhere in both.
-pub one_numbering : (values others vs us : List Value) (ns ms : List ℕ) → HaveOwnNumbers others → RepeatAlike vs us
-    → Pairs (Named values) vs ns → Pairs (Named others) us ms → length ns ≡ length ms
+-- What is alike in two lists, and has numbers, has the same numbers in both, where each number of the first stands somewhere in both.
+pub one_numbering : {X Y : Type 0} (R : X → ℕ → Type 0) (S : Y → ℕ → Type 0) (vs : List X) (us : List Y) (ns ms : List ℕ)
+    → ((x y : X) (n : ℕ) → R x n → R y n → x ≡ y) → ((y : Y) (n m : ℕ) → S y n → S y m → n ≡ m) → RepeatAlike vs us
+    → Pairs R vs ns → Pairs S us ms → length ns ≡ length ms
     → ((k n : ℕ) → slice_get ns k ≡ Some n → (j : ℕ) × (slice_get ns j ≡ Some n) × (slice_get ms j ≡ Some n)) → ns ≡ ms
-one_numbering values others vs us ns ms owns alike here there long meet =
+one_numbering R S vs us ns ms single own alike here there long meet =
     same_lists ns ms long (λ k n m at too.
     let meets = meet k n at in
     let j = meets.0 in
-    let a = pair_at (Named values) vs ns k n here at in
-    let b = pair_at (Named values) vs ns j n here meets.1 in
-    let same : slice_get vs j ≡ slice_get vs k = b.1 ∙ (sym b.2 ∙ a.2) ∙ sym a.1 in
-    let c = pair_at (Named others) us ms k m there too in
-    let d = pair_at (Named others) us ms j n there meets.2 in
+    let a = pair_at R vs ns k n here at in
+    let b = pair_at R vs ns j n here meets.1 in
+    let same : slice_get vs j ≡ slice_get vs k = b.1 ∙ ap Some (single b.0 a.0 n b.2 a.2) ∙ sym a.1 in
+    let c = pair_at S us ms k m there too in
+    let d = pair_at S us ms j n there meets.2 in
     let one : d.0 ≡ c.0 = same_Some d.0 c.0 (sym d.1 ∙ ((alike j k).0 same ∙ c.1)) in
-    owns n m d.0 c.0 d.2 c.2 (ap (λ (v : Value). v.number) one))
+    own c.0 n m (subst (λ y. S y n) one d.2) c.2)

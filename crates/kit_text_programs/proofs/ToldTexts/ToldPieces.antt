@@ -1,7 +1,8 @@
 -- The pieces of an operation that has nothing below its leaves, by its attributes and the types of its results.
 use Rattle.std.proofs.Common.{◌≡◌, ℕ, Bool, true, false, ◌&&◌, List, [], ◌∷◌, length, Option, Some, None}
 use Rattle.std.proofs.Common.{refl, sym, ap, ◌∙◌, subst, ◌^◌}
-use Rattle.std.specs.Prelude.{◌==◌, nat_lt}
+use Rattle.std.specs.Prelude.{Vec, ◌==◌, nat_lt}
+use Rattle.std.specs.Global.{Global}
 use Rattle.std.proofs.lemmas.Option.{none-some, same_Some, some_pair_parts}
 use Rattle.ir_base.specs.declared.types.TypeHandle.{TypeHandle}
 use Rattle.ir_forest.specs.Bare.{IsBare, AreBare}
@@ -9,20 +10,20 @@ use Rattle.ir_names.specs.declared.identifier.Identifier.{Identifier}
 use Rattle.ir_names.specs.Dictionary.{attribute_at}
 use Rattle.ir_names.specs.Identifier.{text_of}
 use Rattle.ir_names.specs.Tree.{LabelledTree, Trees, node, no_tree, a_tree}
-use Rattle.ir_print.specs.Pieces.{Piece, attribute_of_kind, operands, region, name, number, width, ValueTree, Pieces}
-use Rattle.ir_print.specs.Shown.{Said, said_type, said_attribute, said_operands, said_region, said_name, said_number}
+use Rattle.ir_print.specs.Pieces.{Piece, attribute_of_kind, operands, successor, region, name, number, width, ValueTree, Pieces}
+use Rattle.ir_print.specs.Shown.{Said, said_type, said_attribute, said_operands, said_successor, said_region, said_name, said_number}
 use Rattle.ir_print.specs.Shown.{said_width, leaf, ShowsAll, ShowsType}
 use Rattle.kit_ops.specs.declared.attributes.IntegerAttr.{IntegerAttr}
 use Rattle.kit_ops.specs.declared.attributes.KitAttr.{KitAttr}
 use Rattle.kit_ops.specs.declared.attributes.KitAttr.TheVariants as attrs
 use Rattle.kit_ops.specs.declared.types.KitType.{KitType}
-use Rattle.kit_ops.specs.Keys.{symbol_name, function_type, constant_value, callee, callee_type}
+use Rattle.kit_ops.specs.Keys.{symbol_name, function_type, constant_value, callee, callee_type, segment_sizes}
 use Rattle.kit.specs.Forms.{OpForm, NamedRegion, TypedRegion, Value, TwoOperands, OneOperand, AnyOperands, Empty}
-use Rattle.kit.specs.Forms.{Called}
+use Rattle.kit.specs.Forms.{Called, Edge, ConditionEdges}
 use Rattle.kit.specs.Numbers.{printed_number}
-use Rattle.kit.specs.Readable.{constant_says, call_says}
+use Rattle.kit.specs.Readable.{constant_says, call_says, condition_says}
 use Rattle.kit.specs.Says.{says, one, two, only, has_values, integer_said, said_of_attribute, said_of_module}
-use Rattle.kit.specs.Says.{said_of_function, said_of_constant, pair_said, said_of_pair, said_of_call}
+use Rattle.kit.specs.Says.{said_of_function, said_of_constant, pair_said, said_of_pair, said_of_call, said_of_condition}
 use Rattle.kit.specs.Says.{said_in}
 use Rattle.kit.specs.Seen.{SeenPiece, none_seen, one_seen, two_seen, three_seen}
 
@@ -76,6 +77,10 @@ IsTold keys Empty es n tys ps = ps ≡ no_tree
 IsTold keys Called es n tys ps = (id : Identifier) × (ty : TypeHandle) × (r : ValueTree)
     × (attribute_at es callee ≡ Some (attrs.Identifier id)) × (attribute_at es callee_type ≡ Some (attrs.«Type» ty))
     × ShowsType says keys ty r × (ps ≡ a_tree (plain (name (text_of id))) (two (plain (operands n)) r))
+IsTold keys Edge es n tys ps = ps ≡ one (plain (successor n))
+IsTold keys ConditionEdges es n tys ps = (sizes : Vec ℕ Global) × (a b : ℕ)
+    × (attribute_at es segment_sizes ≡ Some (attrs.SegmentSizes sizes)) × (sizes.items ≡ 1 ∷ a ∷ b ∷ [])
+    × (ps ≡ a_tree (plain (operands 1)) (two (plain (successor a)) (plain (successor b))))
 
 module _ (keys : List KitType) where
   -- ---- pieces
@@ -242,6 +247,37 @@ module _ (keys : List KitType) where
           k.3 ∙ (λ i. a_tree (first i) (two (second i) k.2)),
         )
 
+    -- what an operation tells that says one edge
+    edge_told : (said : SaidTrees) → ◌≡◌ {A = Option SaidTrees} (Some (one (leaf (said_successor n)))) (Some said)
+        → ShowsAll says keys said ps → ps ≡ one (plain (successor n))
+    edge_told said e h =
+        let all : SaidTrees = one (leaf (said_successor n)) in
+        let same = same_Some all said e in
+        let k = one_seen says keys (leaf (said_successor n)) ps
+        (subst (λ (x : SaidTrees). ShowsAll says keys x ps) (sym same) h) in
+        let below = subst AreBare k.1 bare in
+        k.1 ∙ ap (λ (p : ValueTree). one p) (is_plain (successor n) (λ us c. c) k.0 k.2.0 k.2.1 below.0)
+
+    -- what a conditional branch tells
+    condition_told : (said : SaidTrees) → said_of_condition (attribute_at es segment_sizes) n ≡ Some said
+        → ShowsAll says keys said ps → IsTold keys ConditionEdges es n tys ps
+    condition_told said e h =
+        let condition = condition_says (attribute_at es segment_sizes) n said e in
+        let is = condition.say in
+        let k = three_seen says keys (leaf (said_operands 1)) (leaf (said_successor is.first)) (leaf (said_successor is.second)) ps
+        (subst (λ (x : SaidTrees). ShowsAll says keys x ps) (sym is.says_it) h) in
+        let below = subst AreBare k.3 bare in
+        let chosen = is_plain (operands 1) (λ us c. c) k.0 k.4.0 k.4.1 below.0 in
+        let first = is_plain (successor is.first) (λ us c. c) k.1 k.5.0 k.5.1 below.1.0 in
+        let second = is_plain (successor is.second) (λ us c. c) k.2 k.6.0 k.6.1 below.1.1.0 in (
+          condition.sizes,
+          is.first,
+          is.second,
+          condition.has_sizes,
+          is.are,
+          k.3 ∙ (λ i. a_tree (chosen i) (two (first i) (second i))),
+        )
+
     -- what is said in a form and shown is told
     pub told : (form : OpForm) (said : SaidTrees) → said_in form es n tys ≡ Some said → ShowsAll says keys said ps
         → IsTold keys form es n tys ps
@@ -265,3 +301,6 @@ module _ (keys : List KitType) where
     told Called said e h =
         call_told said (only_some (length es == 2)
         (said_of_call (attribute_at es callee) (attribute_at es callee_type) n) said e) h
+    told Edge said e h = edge_told said (only_some (length es == 0) (Some (one (leaf (said_successor n)))) said e) h
+    told ConditionEdges said e h =
+        condition_told said (only_some (length es == 1) (said_of_condition (attribute_at es segment_sizes) n) said e) h

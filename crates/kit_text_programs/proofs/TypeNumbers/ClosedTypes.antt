@@ -4,11 +4,11 @@ use Rattle.std.proofs.Common.{subst}
 use Rattle.ir_forest.specs.Bare.{IsBare, AreBare, AreBareArguments, IsBareTree, AreBareTrees}
 use Rattle.ir_forest.specs.Closed.{IsClosedTree, IsOperation, AreRegions, IsRegion, AreBlocks, IsBlock, AreOperations}
 use Rattle.ir_names.specs.Tree.{node, no_tree, a_tree}
-use Rattle.ir_print.specs.Pieces.{type_of_kind, attribute_of_kind, list, item, operands, region, name, number, width}
+use Rattle.ir_print.specs.Pieces.{type_of_kind, attribute_of_kind, list, item, operands, successor, region, name, number, width}
 use Rattle.ir_print.specs.Pieces.{ValueTree, Pieces, operation, a_region, block, Entity, entity, Entities, no_entity}
 use Rattle.ir_print.specs.Pieces.{an_entity}
 use Rattle.kit_language.specs.Language.{kit_language}
-use Rattle.kit.specs.Forms.{OpForm, NamedRegion, TypedRegion, Value, TwoOperands, OneOperand, AnyOperands, Empty}
+use Rattle.kit.specs.Forms.{OpForm, NamedRegion, TypedRegion, Value, TwoOperands, OneOperand, AnyOperands, Empty, Edge, ConditionEdges}
 use Rattle.kit.specs.Forms.{Called}
 use Rattle.kit.specs.Says.{values, form_at, integer_types, constant_types, pair_types, member_types, types_returned}
 use Rattle.kit.specs.Says.{call_types, result_types_in}
@@ -37,6 +37,7 @@ among_bare (a_tree (node (attribute_of_kind n) us) ts) b r h = among_bare ts b.1
 among_bare (a_tree (node list us) ts) b r h = among_bare ts b.1 r h
 among_bare (a_tree (node item us) ts) b r h = among_bare ts b.1 r h
 among_bare (a_tree (node (operands n) us) ts) b r h = among_bare ts b.1 r h
+among_bare (a_tree (node (successor n) us) ts) b r h = among_bare ts b.1 r h
 among_bare (a_tree (node region us) ts) b r h = among_bare ts b.1 r h
 among_bare (a_tree (node (name cs) us) ts) b r h = among_bare ts b.1 r h
 among_bare (a_tree (node (number m n) us) ts) b r h = among_bare ts b.1 r h
@@ -54,6 +55,7 @@ integer_bare (a_tree t (a_tree (node (type_of_kind n) us) ts)) r h = absurd h
 integer_bare (a_tree t (a_tree (node list us) ts)) r h = absurd h
 integer_bare (a_tree t (a_tree (node item us) ts)) r h = absurd h
 integer_bare (a_tree t (a_tree (node (operands n) us) ts)) r h = absurd h
+integer_bare (a_tree t (a_tree (node (successor n) us) ts)) r h = absurd h
 integer_bare (a_tree t (a_tree (node region us) ts)) r h = absurd h
 integer_bare (a_tree t (a_tree (node (name cs) us) ts)) r h = absurd h
 integer_bare (a_tree t (a_tree (node (number m n) us) ts)) r h = absurd h
@@ -67,6 +69,7 @@ constant_bare (a_tree (node (type_of_kind n) us) ts) r h = absurd h
 constant_bare (a_tree (node list us) ts) r h = absurd h
 constant_bare (a_tree (node item us) ts) r h = absurd h
 constant_bare (a_tree (node (operands n) us) ts) r h = absurd h
+constant_bare (a_tree (node (successor n) us) ts) r h = absurd h
 constant_bare (a_tree (node region us) ts) r h = absurd h
 constant_bare (a_tree (node (name cs) us) ts) r h = absurd h
 constant_bare (a_tree (node (number m n) us) ts) r h = absurd h
@@ -92,6 +95,7 @@ members_bare (a_tree (node list us) ts) b r h = members_bare ts b.1 r h
 members_bare (a_tree (node (attribute_of_kind n) us) ts) b r h = members_bare ts b.1 r h
 members_bare (a_tree (node (type_of_kind n) us) ts) b r h = members_bare ts b.1 r h
 members_bare (a_tree (node (operands n) us) ts) b r h = members_bare ts b.1 r h
+members_bare (a_tree (node (successor n) us) ts) b r h = members_bare ts b.1 r h
 members_bare (a_tree (node region us) ts) b r h = members_bare ts b.1 r h
 members_bare (a_tree (node (name cs) us) ts) b r h = members_bare ts b.1 r h
 members_bare (a_tree (node (number m n) us) ts) b r h = members_bare ts b.1 r h
@@ -116,6 +120,8 @@ results_in_bare OneOperand ts b r h = absurd h
 results_in_bare AnyOperands ts b r h = absurd h
 results_in_bare Empty ts b r h = one_bare (node (type_of_kind 2) no_tree) tt r h
 results_in_bare Called ts b r h = call_bare ts b r h
+results_in_bare Edge ts b r h = absurd h
+results_in_bare ConditionEdges ts b r h = absurd h
 
 results_bare : (form : Option OpForm) (ts : Pieces) → AreBare ts → AllBare (result_types_by form ts)
 results_bare None ts b r h = absurd h
@@ -129,13 +135,13 @@ arguments_bare (x ∷ xs) b r (inr h) = arguments_bare xs b.1 r h
 
 mutual
   operation_bare : (t : Entity ℕ) → IsOperation values t → IsBareTree t → AllBare (types_in_text t)
-  operation_bare (entity (operation kind results used pieces) ts) o b =
+  operation_bare (entity (operation kind results used successors pieces) ts) o b =
       both_bare (map (λ (x : ℕ × ValueTree). x.1) results ++ types_among pieces) (types_in_texts ts)
       (both_bare (map (λ (x : ℕ × ValueTree). x.1) results) (types_among pieces)
       (subst AllBare (sym o.0) (results_bare (form_at kind) pieces b.0)) (among_bare pieces b.0))
-      (regions_bare ts o.2 b.1)
+      (regions_bare ts o.3 b.1)
   operation_bare (entity a_region ts) o b = absurd o
-  operation_bare (entity (block label arguments) ts) o b = absurd o
+  operation_bare (entity (block named label arguments) ts) o b = absurd o
 
   regions_bare : (ts : Entities ℕ) → AreRegions values ts → AreBareTrees ts → AllBare (types_in_texts ts)
   regions_bare no_entity o b r h = absurd h
@@ -143,17 +149,17 @@ mutual
 
   region_bare : (t : Entity ℕ) → IsRegion values t → IsBareTree t → AllBare (types_in_text t)
   region_bare (entity a_region ts) o b = blocks_bare ts o b.1
-  region_bare (entity (operation kind results used pieces) ts) o b = absurd o
-  region_bare (entity (block label arguments) ts) o b = absurd o
+  region_bare (entity (operation kind results used successors pieces) ts) o b = absurd o
+  region_bare (entity (block named label arguments) ts) o b = absurd o
 
   blocks_bare : (ts : Entities ℕ) → AreBlocks values ts → AreBareTrees ts → AllBare (types_in_texts ts)
   blocks_bare no_entity o b r h = absurd h
   blocks_bare (an_entity t ts) o b r h = both_bare (types_in_text t) (types_in_texts ts) (block_bare t o.0 b.0) (blocks_bare ts o.1 b.1) r h
 
   block_bare : (t : Entity ℕ) → IsBlock values t → IsBareTree t → AllBare (types_in_text t)
-  block_bare (entity (block label arguments) ts) o b =
+  block_bare (entity (block named label arguments) ts) o b =
       both_bare (map (λ (x : ℕ × ValueTree). x.1) arguments) (types_in_texts ts) (arguments_bare arguments b.0) (operations_bare ts o b.1)
-  block_bare (entity (operation kind results used pieces) ts) o b = absurd o
+  block_bare (entity (operation kind results used successors pieces) ts) o b = absurd o
   block_bare (entity a_region ts) o b = absurd o
 
   operations_bare : (ts : Entities ℕ) → AreOperations values ts → AreBareTrees ts → AllBare (types_in_texts ts)

@@ -112,9 +112,9 @@ module _ (s : WritableContext) (own : HasOneHandleEach s) where
         (codes : Bijection TypeHandle ℕ) × HaveTextNumbers number codes.to s text × HaveTextNumbers number codes.to z other
     types_numbered z text other root there t u same h k within =
         let both = handles_of_both says s.types.keys (types_in_text text) (types_in_text other)
-        (operation_handles says (Named h.values) HasOwnLabel (seen s) text root h.stands)
+        (operation_handles says (Named h.numbering) HasOwnLabel (seen s) text root h.stands)
         (subst (λ (y : KitTypes). HaveHandles says y.keys (types_in_text other)) same
-        (operation_handles says (Named k.values) HasOwnLabel (seen z) other there k.stands)) in
+        (operation_handles says (Named k.numbering) HasOwnLabel (seen z) other there k.stands)) in
         let found = numbering (types_in_text text ++ types_in_text other) both within in (
           found.0,
           (λ a r shown has. found.1 a r shown (has-left r (types_in_text text) (types_in_text other) has)),

@@ -10,10 +10,9 @@ use Rattle.ir_program.specs.declared.handles.BasicBlock.{BasicBlock}
 use Rattle.ir_program.specs.declared.handles.Operation.{Operation}
 use Rattle.ir_program.specs.declared.handles.Ptr.{Ptr}
 use Rattle.ir_program.specs.declared.handles.Region.{Region}
-use Rattle.ir_program.specs.declared.handles.Value.{Value}
 use Rattle.text_dialect.specs.Seen.{SeenBlock, Seen}
 use Rattle.text_dialect.specs.Standing.{HasDefinition, HasTree, HasRegionTree, HasBlockTree, HaveRegionTrees}
-use Rattle.text_dialect.specs.Standing.{HaveBlockTrees, HaveTrees}
+use Rattle.text_dialect.specs.Standing.{HaveBlockTrees, HaveTrees, Naming}
 use Rattle.kit_text_programs.specs.SameLaws.{types_among, types_in_text, types_in_texts}
 
 -- pairs of the one lists, and then of the others
@@ -34,7 +33,7 @@ module _ {K A T : Type 0} (says : Saying K A T) (types : List T) where
   handles_of_both rs qs h k = (h.0 ++ k.0, pairs_append (ShowsType says types) h.0 k.0 rs qs h.1 k.1)
 
   -- of results or arguments
-  defined_handles : (Named : Value → ℕ → Type 0) (vs : List TypedValue) (rs : List (ℕ × ValueTree)) →
+  defined_handles : (Named : Naming ℕ) (vs : List TypedValue) (rs : List (ℕ × ValueTree)) →
       Pairs (HasDefinition says Named types) vs rs → HaveHandles (map (λ (r : ℕ × ValueTree). r.1) rs)
   defined_handles Named [] [] h = ([], tt)
   defined_handles Named [] (r ∷ rs) h = absurd h
@@ -54,36 +53,36 @@ module _ {K A T : Type 0} (says : Saying K A T) (types : List T) where
       (first.0 ∷ more.0, ((first.0, first.1, first.2, refl, first.4, first.5, first.6), more.1))
   pieces_handles (a_tree u us) (a_tree (node p vs) ts) h = pieces_handles us ts h.1
 
-module _ {K A T : Type 0} (says : Saying K A T) (Named : Value → ℕ → Type 0) (Labels : Ptr BasicBlock → SeenBlock → List ℕ → Type 0)
+module _ {K A T : Type 0} (says : Saying K A T) (Named : Naming ℕ) (Labels : Ptr BasicBlock → SeenBlock → List ℕ → Type 0)
     (s : Seen K A T) where
   mutual
     -- of an operation
     pub operation_handles : (t : Entity ℕ) (p : Ptr Operation) → HasTree says Named Labels s p t →
         HaveHandles says s.types (types_in_text t)
-    operation_handles (entity (operation kind results used pieces) ts) p (o, at, head, inside) =
+    operation_handles (entity (operation kind results used successors pieces) ts) p (o, at, head, inside) =
         let results_too = defined_handles says s.types Named o.results results head.defines in
         let pieces_too = pieces_handles says s.types head.said pieces head.shown in
         handles_of_both says s.types (map (λ (r : ℕ × ValueTree). r.1) results ++ types_among pieces) (types_in_texts ts)
         (handles_of_both says s.types (map (λ (r : ℕ × ValueTree). r.1) results) (types_among pieces) results_too pieces_too)
         (regions_handles ts o.regions inside)
     operation_handles (entity a_region ts) p h = absurd h
-    operation_handles (entity (block label arguments) ts) p h = absurd h
+    operation_handles (entity (block named label arguments) ts) p h = absurd h
 
     -- of a region
     region_handles : (t : Entity ℕ) (r : Ptr Region) → HasRegionTree says Named Labels s r t →
         HaveHandles says s.types (types_in_text t)
     region_handles (entity a_region ts) r (bs, at, inside) = blocks_handles ts bs inside
-    region_handles (entity (operation kind results used pieces) ts) r h = absurd h
-    region_handles (entity (block label arguments) ts) r h = absurd h
+    region_handles (entity (operation kind results used successors pieces) ts) r h = absurd h
+    region_handles (entity (block named label arguments) ts) r h = absurd h
 
     -- of a block
     block_handles : (t : Entity ℕ) (b : Ptr BasicBlock) → HasBlockTree says Named Labels s b t →
         HaveHandles says s.types (types_in_text t)
-    block_handles (entity (block label arguments) ts) b (v, at, labelled, defines, inside) =
+    block_handles (entity (block named label arguments) ts) b (v, at, labelled, numbered, defines, inside) =
         handles_of_both says s.types (map (λ (r : ℕ × ValueTree). r.1) arguments) (types_in_texts ts)
         (defined_handles says s.types Named v.arguments arguments defines) (operations_handles ts v.operations inside)
     block_handles (entity a_region ts) b h = absurd h
-    block_handles (entity (operation kind results used pieces) ts) b h = absurd h
+    block_handles (entity (operation kind results used successors pieces) ts) b h = absurd h
 
     -- of regions
     regions_handles : (ts : Entities ℕ) (rs : List (Ptr Region)) → HaveRegionTrees says Named Labels s rs ts →

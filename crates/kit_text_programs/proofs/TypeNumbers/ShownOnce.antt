@@ -5,9 +5,9 @@ use Rattle.std.proofs.lemmas.Option.{same_Some, some_pair_parts}
 use Rattle.ir_base.specs.declared.types.TypeHandle.{TypeHandle}
 use Rattle.ir_forest.specs.Bare.{IsBare, AreBare}
 use Rattle.ir_names.specs.Tree.{LabelledTree, Trees, node, no_tree, a_tree}
-use Rattle.ir_print.specs.Pieces.{Piece, type_of_kind, attribute_of_kind, list, item, operands, region, name, number, width}
+use Rattle.ir_print.specs.Pieces.{Piece, type_of_kind, attribute_of_kind, list, item, operands, successor, region, name, number, width}
 use Rattle.ir_print.specs.Pieces.{ValueTree, Pieces}
-use Rattle.ir_print.specs.Shown.{Said, said_type, said_attribute, said_list, said_item, said_operands, said_region, said_name}
+use Rattle.ir_print.specs.Shown.{Said, said_type, said_attribute, said_list, said_item, said_operands, said_successor, said_region, said_name}
 use Rattle.ir_print.specs.Shown.{said_number, said_width, leaf, Saying, Shows, ShowsAll}
 use Rattle.kit.specs.Seen.{seen}
 
@@ -78,6 +78,9 @@ module _ {K A T : Type 0} (says : Saying K A T) (types : List T) where
     one_text (node (operands n) ts) q x e k b c =
         let other = seen says types (leaf (said_operands n)) q (shown_as x (leaf (said_operands n)) q e k) in
         bare_node (operands n) ts other.0 q b other.1 (bare_as q (node (operands n) other.0) other.1 c)
+    one_text (node (successor n) ts) q x e k b c =
+        let other = seen says types (leaf (said_successor n)) q (shown_as x (leaf (said_successor n)) q e k) in
+        bare_node (successor n) ts other.0 q b other.1 (bare_as q (node (successor n) other.0) other.1 c)
     one_text (node region ts) q x e k b c =
         let other = seen says types (leaf said_region) q (shown_as x (leaf said_region) q e k) in
         bare_node region ts other.0 q b other.1 (bare_as q (node region other.0) other.1 c)

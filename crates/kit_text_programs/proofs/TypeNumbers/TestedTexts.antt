@@ -3,7 +3,7 @@ use Rattle.std.proofs.Common.{◌≡◌, ◌≢◌, ◌⊎◌, inl, inr, ℕ, ze
 use Rattle.ir_names.specs.declared.kinds.Signedness.{Signedness}
 use Rattle.ir_names.specs.declared.kinds.Signedness.TheVariants.{Signless, Signed, Unsigned}
 use Rattle.ir_names.specs.Tree.{node, no_tree, a_tree}
-use Rattle.ir_print.specs.Pieces.{Piece, type_of_kind, attribute_of_kind, list, item, operands, region, name, number, width}
+use Rattle.ir_print.specs.Pieces.{Piece, type_of_kind, attribute_of_kind, list, item, operands, successor, region, name, number, width}
 use Rattle.ir_print.specs.Pieces.{ValueTree, Pieces}
 
 -- two of these are the same or not
@@ -64,6 +64,8 @@ piece_test item item = inl refl
 piece_test item _ = inr (λ e. cc)
 piece_test (operands m) (operands n) = by_part operands m n (λ e. cc) (number_test m n)
 piece_test (operands m) _ = inr (λ e. cc)
+piece_test (successor m) (successor n) = by_part successor m n (λ e. cc) (number_test m n)
+piece_test (successor m) _ = inr (λ e. cc)
 piece_test region region = inl refl
 piece_test region _ = inr (λ e. cc)
 piece_test (name ms) (name ns) = by_part name ms ns (λ e. cc) (numbers_test ms ns)

@@ -1,5 +1,6 @@
 use Rattle.std.proofs.Common.{◌≡◌, subst}
 use Rattle.ir_program.specs.Program.{Program, IsLiveValue}
+use Rattle.ir_program.specs.Lists.{itself}
 use Rattle.ir_program.specs.declared.handles.Value.{Value}
 use Rattle.ir_trees.specs.Stands.{StandsFor}
 use Rattle.kit.specs.Meaning.{KitOperation, KitBlock}
@@ -7,11 +8,14 @@ use Rattle.kit_ruled_views.specs.Ruled.{KitTree}
 use Rattle.opt_inside.proofs.Around.{HasLists}
 use Rattle.opt_inside.proofs.Values.{defined}
 use Rattle.opt_trees.specs.Occurrences.{Has, defined_in}
-use Rattle.irkit_running.proofs.HoldingLemmas.{AreTypedAtDefiners, live_below, module_gives_nothing}
+use Rattle.irkit_running.proofs.HoldingLemmas.{AreTypedAtDefiners, live_below, module_gives_nothing, module_goes_nowhere}
 use Rattle.irkit_running.proofs.knowing.know_own_text.Goals as goal
 
 pub know_holding-requires : goal.know_holding-requires
 know_holding-requires c = c.requires.holds.live
+
+pub know_edges-requires-clause-inside : goal.know_edges-requires-clause-inside
+know_edges-requires-clause-inside c = itself
 
 pub returns : goal.returns
 returns c =
@@ -40,11 +44,12 @@ returns c =
     (λ v has. live_below s.program typed root v ((defined s.program lists root t stands v).0 has)) in
     let text = c.writable_trees_have_texts.ensures s root t stands (c.requires.writable t stands)
     (module_gives_nothing s t (c.requires.holds.rules t stands)) (c.know_scopes.ensures.scoped.root_takes_none t stands)
-    (c.know_scopes.ensures.scoped.inside t stands) (c.know_ordinary.ensures t stands).0.values
-    (λ v w h k e. own v w (live v h) (live w k) e) in
+    (module_goes_nowhere s t (c.requires.holds.rules t stands)) (c.know_scopes.ensures.scoped.inside t stands)
+    (c.know_edges.ensures.scoped t stands) (c.know_ordinary.ensures t stands).0.values
+    (λ v w h k e. own v w (live v h) (live w k) e) (c.know_ordinary.ensures t stands).0.blocks in
     record {
       tree = text.text;
-      holds = c.know_holding.ensures text.text text.values text.distinct text.stands;
+      holds = c.know_holding.ensures text.text text.numbering text.distinct text.stands text.closed text.numbered;
       closed = text.closed;
       numbered = text.numbered;
     }

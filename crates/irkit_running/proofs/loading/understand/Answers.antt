@@ -43,7 +43,9 @@ returns-in-Err-clause-understands c =
     let read = c.in_ok-root.ensures.read in
     let s = c.top_level_parse.new.ctx in
     let root = c.in_ok-root.root in
-    let holds = c.know_holding.ensures read.tells.tree read.tells.values read.tells.distinct read.tells.stands in
+    let closed = c.trees_of_texts_are_closed.ensures kit_language c.kit_can_print.ensures refl refl read.tells.numbering (seen s) root
+    (codes_of c.as_text.result) read.tells.tree read.tells.said read.tells.stands in
+    let holds = c.know_holding.ensures read.tells.tree read.tells.numbering read.tells.distinct read.tells.stands closed.0 closed.1 in
     let is = said c.args.bytes.items (codes_of c.as_text.result) c.args.ctx.now s root decoded.0
     (c.as_text.ensures ∙ decoded.1) read holds in
     misruled c.args.bytes.items c.args.ctx.now c.discard.new.ctx s root c.in-Err.fault (Err c.from.result) (ap (λ x. Err x) c.from.ensures) is
@@ -56,7 +58,9 @@ returns-clause-understands c =
     let read = c.in_ok-root.ensures.read in
     let s = c.top_level_parse.new.ctx in
     let root = c.in_ok-root.root in
-    let holds = c.know_holding.ensures read.tells.tree read.tells.values read.tells.distinct read.tells.stands in
+    let closed = c.trees_of_texts_are_closed.ensures kit_language c.kit_can_print.ensures refl refl read.tells.numbering (seen s) root
+    (codes_of c.as_text.result) read.tells.tree read.tells.said read.tells.stands in
+    let holds = c.know_holding.ensures read.tells.tree read.tells.numbering read.tells.distinct read.tells.stands closed.0 closed.1 in
     accepted c.args.bytes.items (codes_of c.as_text.result) c.args.ctx.now s root decoded.0
     (c.as_text.ensures ∙ decoded.1) read holds
     (λ t stands. subst (IsVerdict (world_of s) t) c.in_default.is (c.verify_module.ensures t stands))
@@ -67,9 +71,9 @@ pub returns-clause-writable : goal.returns-clause-writable
 returns-clause-writable c = λ t stands.
     let read = c.in_ok-root.ensures.read in
     let s = c.top_level_parse.new.ctx in
-    let closed = c.trees_of_texts_are_closed.ensures kit_language c.kit_can_print.ensures refl refl read.tells.values (seen s) c.in_ok-root.root
+    let closed = c.trees_of_texts_are_closed.ensures kit_language c.kit_can_print.ensures refl refl read.tells.numbering (seen s) c.in_ok-root.root
     (codes_of c.as_text.result) read.tells.tree read.tells.said read.tells.stands in
-    c.texts_are_writable.ensures s c.in_ok-root.root read.tells.values read.tells.tree t read.tells.stands closed.0 stands
+    c.texts_are_writable.ensures s c.in_ok-root.root read.tells.numbering read.tells.tree t read.tells.stands closed.0 stands
 
 pub returns-clause-grammar : goal.returns-clause-grammar
 returns-clause-grammar c =
