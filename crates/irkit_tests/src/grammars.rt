@@ -283,6 +283,8 @@ const ACTIONS: &[(Action, Change)] = &[
     (Action::Operation(0), Change::Keeps),
     (Action::BeginList, Change::Keeps),
     (Action::EndList, Change::Keeps),
+    (Action::BeginSuccessor, Change::Keeps),
+    (Action::EndSuccessor, Change::Keeps),
 ];
 
 /// A grammar that one token doesn't decide is refused, and actions are brackets or none.
