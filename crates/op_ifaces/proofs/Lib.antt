@@ -1,0 +1,2 @@
+pub mod SingleBlocks
+pub mod AroundBodies

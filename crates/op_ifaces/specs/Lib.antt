@@ -1,0 +1,4 @@
+pub mod Ranges
+pub mod Rows
+pub mod Rules
+pub mod Interfaces
