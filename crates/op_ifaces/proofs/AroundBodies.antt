@@ -1,5 +1,5 @@
 -- What stands around a block of an operation's region stands around the operation.
-use Rattle.std.proofs.Common.{◌≡◌, ℕ, Some, slice_get, subst, ap}
+use Rattle.std.proofs.Common.{◌≡◌, Some, slice_get, subst, ap}
 use Rattle.ir_program.specs.Program.{Program}
 use Rattle.ir_program.specs.Lists.{blocks_in, regions_in, StandsInOperation, StandsInRegion, StandsInside, StandOnce, itself, in_block, in_region, in_operation}
 use Rattle.ir_program.specs.declared.handles.Ptr.{Ptr}

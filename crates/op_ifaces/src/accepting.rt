@@ -1,5 +1,5 @@
 //! Interfaces that ask nothing of an operation's rows and regions.
-ghost use Rattle.std.specs.Prelude.{◌≡◌, ◌↔◌, ◌<◌, IsOk, IsSome, IsTrue, IfSome, length};
+ghost use Rattle.std.specs.Prelude.{◌≡◌, ◌↔◌, IsOk, IsSome, IsTrue, IfSome};
 ghost use Rattle.ir_names.specs.declared.interfaces.OpInterface.TheVariants as interface;
 ghost use Rattle.ir_names.specs.declared.interfaces.RegionKind.TheVariants.{SSACFG};
 ghost use Rattle.ir_program.specs.Program.{operation_at};

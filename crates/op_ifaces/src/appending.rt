@@ -15,7 +15,6 @@ use ir_context::{OperationCalls, OperationLists, RegionCalls, TypeTable, TypedPr
 use ir_program::{BasicBlock, Operation, Ptr, Region};
 
 /// Tells that an operation that isn't around another one isn't around a block of its regions. It does nothing.
-#[tactic(auto, using(crate::proofs::AroundBodies::around_body))]
 fn lemma_apart<O, B, T: TypeTable>(
     op: Ptr<Operation>,
     region: Ptr<Region>,

@@ -33,8 +33,8 @@ pub enum ResultNOfTypeError {
     #[error(transparent)]
     NotEnough(NotEnoughResultsErr),
     /// It is of another type.
-    #[error("expected result {0} to be of type {1}")]
-    UnexpectedType(usize, TypeId),
+    #[error("result {0} is of another type than expected")]
+    UnexpectedType(usize),
     /// Its type doesn't implement the interface.
     #[error(transparent)]
     Impls(TypeInterfaceImplsErr),
@@ -47,8 +47,8 @@ pub enum ResultsMNOfTypeError {
     #[error(transparent)]
     NotEnough(NotEnoughResultsErr),
     /// One is of another type.
-    #[error("expected the results from {0} to {1} to be of type {2}")]
-    UnexpectedType(u32, i32, TypeId),
+    #[error("one of the results from {0} to {1} is of another type than expected")]
+    UnexpectedType(u32, i32),
     /// The type of one doesn't implement the interface.
     #[error(transparent)]
     Impls(TypeInterfaceImplsErr),
@@ -157,7 +157,7 @@ impl<const N: usize, T> ResultNOfType<N, T> {
         if passes_at(Row::Results, op, ctx, &OfKind::<T>(PhantomData), N) {
             return Ok(());
         }
-        let there = ResultNOfTypeError::UnexpectedType(N, D::type_id(T::KIND));
+        let there = ResultNOfTypeError::UnexpectedType(N);
         Err(fault_at(N, op, ctx, there))
     }
 }
@@ -209,7 +209,7 @@ impl<const M: u32, const N: i32, T> ResultsMNOfType<M, N, T> {
         if range_passes(Row::Results, op, ctx, &OfKind::<T>(PhantomData), M, N) {
             return Ok(());
         }
-        let there = ResultsMNOfTypeError::UnexpectedType(M, N, D::type_id(T::KIND));
+        let there = ResultsMNOfTypeError::UnexpectedType(M, N);
         Err(fault_in(M, N, op, ctx, there))
     }
 }
