@@ -1,8 +1,8 @@
 //! Lent characters.
-ghost use Rattle.std.specs.Prelude.{◌≡◌, ◌≤◌, ◌<◌, ◌^◌, fold, length, slice_index, slice_range, bytes_eq};
-ghost use Rattle.std.specs.Hash as fed;
+ghost use Rattle.std.specs.Prelude.{◌≡◌, ◌≤◌, ◌<◌, ◌^◌, length, slice_index, slice_range, bytes_eq};
 ghost use Rattle.ir_characters.specs.Texts.{codes_of, trimmed};
 
+use ir_hashing::{TextKey, hash_bytes, hash_characters};
 use std::hash::{Hash, Hasher};
 
 /// The characters of a text, or a part of it.
@@ -17,6 +17,19 @@ pub enum Text<'a> {
 }
 
 impl<'a> Text<'a> {
+    /// The key that the text gives its tables.
+    pub fn key(self) -> TextKey {
+        self.key_after(TextKey::new())
+    }
+
+    /// The key that the texts so far and this one give their tables.
+    pub fn key_after(self, before: TextKey) -> TextKey {
+        match self {
+            Text::Bytes(bytes) => before.after(bytes),
+            Text::Characters(characters) => before.after_characters(characters),
+        }
+    }
+
     /// The number of characters.
     pub fn len(self) -> usize
         ensures count { result ≡ length (codes_of self.entry) }
@@ -105,28 +118,18 @@ impl<'a> Eq for Text<'a> {
     ghost laws = { on_equiv codes_of nat_list_eq_equiv };
 }
 
-/// Feeds a hasher bytes as the characters that they are: how many there are, and each.
-fn hash_bytes<H: Hasher>(bytes: &[u8], state: &mut H)
-    ensures { state.new ≡ fold H.write state.old (fed.slice fed.char bytes.now) }
-{
-    state.write_usize(bytes.len());
-    for byte in bytes {
-        state.write_u32(u32::from(*byte));
-    }
-}
-
 impl<'a> Hash for Text<'a> {
-    ghost use Rattle.std.specs.Hash as fed;
     ghost use Rattle.std.proofs.Common.{rules};
+    ghost use Rattle.ir_hashing.specs.Words.{character_writes};
 
-    ghost hash_input = { λ s. fed.slice fed.char (codes_of s) };
+    ghost hash_input = { λ s. character_writes (codes_of s) };
 
     ghost respects_eq = { Prim.search rules };
 
     fn hash<H: Hasher>(&self, state: &mut H) {
         match self {
             Text::Bytes(bytes) => hash_bytes(bytes, state),
-            Text::Characters(characters) => characters.hash(state),
+            Text::Characters(characters) => hash_characters(characters, state),
         }
     }
 }

@@ -5,3 +5,4 @@ pub mod Kept
 pub mod Refusals
 pub mod Lends
 pub mod Chosen
+pub mod Regions

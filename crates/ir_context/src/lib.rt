@@ -42,7 +42,7 @@ pub use operands::OperandCalls;
 pub use operation_lists::OperationLists;
 pub use operations::OperationCalls;
 pub use plain::{NewBlock, NewOperation};
-pub use regions::RegionCalls;
+pub use regions::{RegionCalls, RegionRecord};
 pub use results::ResultCalls;
 pub use successors::SuccessorCalls;
 pub use type_table::TypeTable;

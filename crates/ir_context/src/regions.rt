@@ -1,5 +1,5 @@
 //! What is asked of regions.
-ghost use Rattle.std.specs.Prelude.{◌≡◌, ◌≢◌, ◌++◌, ◌∷◌, [], ℕ, Some, IsSome, IfSome, is_some, slice_get, remove};
+ghost use Rattle.std.specs.Prelude.{◌≡◌, ◌≢◌, ◌↔◌, ◌-◌, ◌++◌, ◌∷◌, [], ℕ, Some, None, IsSome, IfSome, IfOk, IsErr, is_some, length, slice_get, remove};
 ghost use Rattle.ir_program.specs.declared.handles.Ptr.{Ptr};
 ghost use Rattle.ir_program.specs.declared.handles.Operation.{Operation};
 ghost use Rattle.ir_program.specs.declared.handles.BasicBlock.{BasicBlock};
@@ -9,10 +9,22 @@ ghost use Rattle.ir_program.specs.Program.{operation_at, region_at};
 ghost use Rattle.ir_program.specs.Lists.{blocks_in, regions_in, StandsInRegion, StandsInOperation, StandsInside};
 ghost use Rattle.ir_program.specs.Edits.{EditsOperation, MovesRegion, KeepsValues};
 ghost use Rattle.ir_context.specs.Holders.{HasBlock, HasParentRegion};
+ghost use Rattle.ir_context.specs.Regions.{IsRegion};
 
 use crate::parents::{block_of_region, parent_of_region};
-use crate::{TypeTable, TypedProgram};
+use crate::{DanglingPtrDerefError, TypeTable, TypedProgram};
 use ir_program::{BasicBlock, Operation, Ptr, Region};
+
+/// What a region is: the operation that it stands in, and the ends of the list of its blocks.
+#[derive(Clone, Copy, Debug, PartialEq, Eq)]
+pub struct RegionRecord {
+    /// The operation that it stands in.
+    pub parent: Ptr<Operation>,
+    /// The first of its blocks, if it has any.
+    pub head: Option<Ptr<BasicBlock>>,
+    /// The last of its blocks, if it has any.
+    pub tail: Option<Ptr<BasicBlock>>,
+}
 
 /// What is asked of a region, and how it is moved.
 pub trait RegionCalls {
@@ -22,6 +34,22 @@ pub trait RegionCalls {
     /// Whether the handle leads to a region.
     fn is_live<O, B, T: TypeTable>(self, ctx: &TypedProgram<O, B, T>) -> bool
         ensures { result ≡ is_some (region_at ctx.now.program (region self)) };
+
+    /// What it is: its operation, and the ends of the list of its blocks.
+    fn deref<O, B, T: TypeTable>(self, ctx: &TypedProgram<O, B, T>) -> RegionRecord
+        requires { IsSome (region_at ctx.now.program (region self)) }
+        ensures { IsRegion ctx.now.program (region self) result };
+
+    /// What it is: its operation, and the ends of the list of its blocks.
+    ///
+    /// # Errors
+    /// Refused exactly where the handle leads to no region.
+    fn try_deref<O, B, T: TypeTable>(
+        self,
+        ctx: &TypedProgram<O, B, T>,
+    ) -> Result<RegionRecord, DanglingPtrDerefError>
+        ensures found { IfOk result (IsRegion ctx.now.program (region self)) }
+        ensures refused { IsErr result ↔ (region_at ctx.now.program (region self) ≡ None) };
 
     /// The operation that the region stands in. Each region stands in one.
     fn get_parent_op<O, B, T: TypeTable>(
@@ -87,6 +115,24 @@ impl RegionCalls for Ptr<Region> {
 
     fn is_live<O, B, T: TypeTable>(self, ctx: &TypedProgram<O, B, T>) -> bool {
         ctx.program.has_region(self)
+    }
+
+    fn deref<O, B, T: TypeTable>(self, ctx: &TypedProgram<O, B, T>) -> RegionRecord {
+        RegionRecord {
+            parent: ctx.program.parent_operation(self),
+            head: ctx.program.first_block(self),
+            tail: ctx.program.last_block(self),
+        }
+    }
+
+    fn try_deref<O, B, T: TypeTable>(
+        self,
+        ctx: &TypedProgram<O, B, T>,
+    ) -> Result<RegionRecord, DanglingPtrDerefError> {
+        if !ctx.program.has_region(self) {
+            return Err(DanglingPtrDerefError);
+        }
+        Ok(self.deref(ctx))
     }
 
     fn get_parent_op<O, B, T: TypeTable>(

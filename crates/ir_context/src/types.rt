@@ -7,6 +7,7 @@ ghost use Rattle.ir_context.specs.Known.{IsKnownIn};
 
 use crate::notes::{BlockNotes, OperationData};
 use crate::{Context, TypeTable, TypedProgram};
+use ir_hashing::TextKey;
 use ir_names::TypeHandle;
 use ir_types::{DialectTables, SavedKey, Types};
 use std::alloc::{AllocError, Global};
@@ -106,6 +107,24 @@ impl<D: DialectTables> TypedProgram<OperationData<D>, BlockNotes<D>, Types<D>> {
         ensures program { self.new.program ≡ self.old.program }
     {
         self.types.save(value)
+    }
+
+    /// The key of hashes by which types and saved values are found, and tables of names of the context may be.
+    pub fn hash_key(&self) -> TextKey {
+        self.types.hash_key()
+    }
+
+    /// Has the types and the saved values be found by another key of hashes from now on. Their handles and keys stay.
+    ///
+    /// Before a text is read, it goes into the key (`TextKey::after`), so that no texts can choose types or names that are
+    /// slow to tell apart. This takes time by how many types and saved values there are.
+    ///
+    /// # Errors
+    /// There may be no memory. Some of them may be found by the new key then already.
+    pub fn key_types_by(&mut self, alloc: Global, key: TextKey) -> Result<(), AllocError>
+        ensures same { self.new ≡ self.old }
+    {
+        self.types.key_by(alloc, key)
     }
 
     /// The saved value under a key.

@@ -36,6 +36,17 @@ pub trait UseCalls {
         requires { IsLiveValue ctx.now.program (used self) }
         ensures { IsTrue result ↔ IsUsed ctx.now.program (used self) };
 
+    /// Makes room for so many more uses of the value: the next `n` that replacing puts on it ask for no memory. No use ever
+    /// does, since each operand holds its own place among the uses, so this does nothing.
+    fn reserve_uses<O, B, T: TypeTable>(
+        self,
+        _alloc: Global,
+        _ctx: &mut TypedProgram<O, B, T>,
+        _n: usize,
+    ) -> Result<(), AllocError>
+        ensures succeeds { IsOk result }
+        ensures same { _ctx.new ≡ _ctx.old };
+
     /// Puts another value in place of each operand that is the value. The parameter stays for callers that allocate; no
     /// memory is asked for.
     fn replace_all_uses_with<O, B, T: TypeTable>(
@@ -135,6 +146,15 @@ impl UseCalls for Value {
 
     fn is_used<O, B, T: TypeTable>(self, ctx: &TypedProgram<O, B, T>) -> bool {
         ctx.program.is_used(self)
+    }
+
+    fn reserve_uses<O, B, T: TypeTable>(
+        self,
+        _alloc: Global,
+        _ctx: &mut TypedProgram<O, B, T>,
+        _n: usize,
+    ) -> Result<(), AllocError> {
+        Ok(())
     }
 
     fn replace_all_uses_with<O, B, T: TypeTable>(

@@ -6,6 +6,7 @@ ghost use Rattle.indexmap.specs.IndexSet.{insert_key};
 
 use crate::{DialectTables, SavedKey};
 use indexmap::IndexSet;
+use ir_hashing::{TextKey, rekey};
 use ir_names::{TypeHandle, TypeInterface};
 use std::alloc::{AllocError, Global};
 use std::hash::Hash;
@@ -17,10 +18,10 @@ use std::marker::Model;
 /// beside its key, which is no part of what makes types equal.
 #[derive(Drop)]
 pub struct Types<D: DialectTables> {
-    keys: IndexSet<D::TypeKey>,
+    keys: IndexSet<D::TypeKey, TextKey>,
     // The body at an index is that of the type whose key stands at the index.
     bodies: Vec<Option<D::TypeBody>>,
-    saved: IndexSet<D::Saved>,
+    saved: IndexSet<D::Saved, TextKey>,
 }
 
 impl<D: DialectTables> Model for Types<D> {
@@ -48,7 +49,7 @@ fn body_in<B>(bodies: &[Option<B>], index: usize) -> Option<&B>
 /// The handle of the type with this key. Where no key equals it, it is put behind the others, with a place for a body.
 #[inline]
 fn intern_among<K: Eq + Hash + Drop, B: Drop>(
-    keys: &mut IndexSet<K>,
+    keys: &mut IndexSet<K, TextKey>,
     bodies: &mut Vec<Option<B>>,
     key: K,
 ) -> Result<TypeHandle, AllocError>
@@ -77,7 +78,10 @@ fn intern_among<K: Eq + Hash + Drop, B: Drop>(
 
 /// The key of the value among those that are kept. Where none equals it, it is kept behind the others.
 #[inline]
-fn keep<T: Eq + Hash + Drop>(kept: &mut IndexSet<T>, value: T) -> Result<SavedKey, AllocError>
+fn keep<T: Eq + Hash + Drop>(
+    kept: &mut IndexSet<T, TextKey>,
+    value: T,
+) -> Result<SavedKey, AllocError>
     ensures distinct { IsDistinct T.eq kept.old.keys }
     ensures still_distinct { IsDistinct T.eq kept.new.keys }
     ensures key { IfOk result (λ key. key.number ≡ position_or_len (T.eq value) kept.old.keys) }
@@ -104,10 +108,28 @@ impl<D: DialectTables> Types<D> {
         ensures { result ≡ record { keys = []; bodies = []; saved = [] } }
     {
         Types {
-            keys: IndexSet::new(alloc),
+            keys: IndexSet::with_hasher(alloc, TextKey::new()),
             bodies: Vec::new(alloc),
-            saved: IndexSet::new(alloc),
+            saved: IndexSet::with_hasher(alloc, TextKey::new()),
         }
+    }
+
+    /// The key of hashes by which types and saved values are found.
+    pub fn hash_key(&self) -> TextKey {
+        *self.keys.hasher()
+    }
+
+    /// Has the types and the saved values be found by another key of hashes from now on. Their handles and keys stay.
+    ///
+    /// A text that mentions types goes into the key first, so that none can choose types that are slow to tell apart.
+    ///
+    /// # Errors
+    /// There may be no memory. Some of them may be found by the new key then already.
+    pub fn key_by(&mut self, alloc: Global, key: TextKey) -> Result<(), AllocError>
+        ensures same { self.new ≡ self.old }
+    {
+        rekey(alloc, &mut self.keys, key)?;
+        rekey(alloc, &mut self.saved, key)
     }
 
     /// How many types there are.
