@@ -28,7 +28,7 @@ impl BitOrAssign for IRStatus {
     }
 }
 
-/// Why an optimisation was refused.
+/// Why an optimisation, a pass or a manager of passes was refused.
 #[derive(Clone, Copy, Debug, PartialEq, Eq, Error)]
 pub enum OptError {
     /// No memory was left. The IR stands between two whole rewrites.
@@ -43,6 +43,12 @@ pub enum OptError {
     /// What is left uses a value of what would go. Nothing was changed by that phase.
     #[error("live use")]
     LiveUse,
+    /// A verifier refuses the operation.
+    #[error("verify")]
+    Verify,
+    /// An edge leads out of a region below the operation, or into one. Nothing was changed.
+    #[error("foreign edge")]
+    ForeignEdge,
 }
 
 impl From<AllocError> for OptError {

@@ -50,6 +50,8 @@ fn word_of(answer: Result<IRStatus, OptError>) -> &'static str {
         Err(OptError::CounterFull) => "counter full",
         Err(OptError::UndeterminedOperand) => "undetermined operand",
         Err(OptError::LiveUse) => "live use",
+        Err(OptError::Verify) => "verify",
+        Err(OptError::ForeignEdge) => "foreign edge",
     }
 }
 

@@ -13,4 +13,4 @@ pub use cache::AnalysisCache;
 pub use manager::{AnalysisManager, PassResult};
 pub use none::NoAnalysis;
 pub use settings::{PMConfig, PMData, PMState};
-pub use verified::Verified;
+pub use verified::{Verified, VerifiedContext};

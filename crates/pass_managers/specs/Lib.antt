@@ -1,0 +1,4 @@
+pub mod Behaviour
+pub mod Laws
+pub mod Running
+pub mod lawful

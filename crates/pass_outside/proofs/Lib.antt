@@ -1,0 +1,3 @@
+pub mod Lists
+pub mod Outside
+pub mod Children
