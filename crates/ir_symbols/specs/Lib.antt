@@ -1,0 +1,6 @@
+pub mod Symbols
+pub mod Scans
+pub mod Lookups
+pub mod Tables
+pub mod Collecting
+pub mod Insertions

@@ -1,0 +1,17 @@
+//! Symbol tables: operations by their names, kept in step with the block that holds them.
+#![tactic(auto)]
+
+mod bodies;
+mod errors;
+mod names;
+mod nearest;
+mod payload;
+mod placing;
+mod scanning;
+mod tables;
+
+pub use bodies::single_block;
+pub use errors::SymbolTableErr;
+pub use nearest::{lookup_symbol, nearest_symbol_table, scan};
+pub use payload::SymbolPayload;
+pub use tables::SymbolTable;
