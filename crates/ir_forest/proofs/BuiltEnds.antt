@@ -54,21 +54,18 @@ root_grows (Did a ∷ es) fresh n h f some =
 -- ---- what actions are, once more
 
 alone_refused : (values : Values) (a : Action) (ps : Pieces) → sort_of a ≡ alone → refused values a ps ≡ None
-alone_refused values (act.BeginType kind) ps h = cc
-alone_refused values (act.BeginAttribute kind) ps h = cc
+alone_refused values (act.Begin sort kind) ps h = cc
 alone_refused values (act.Operation kind) ps h = cc
 alone_refused values _ ps h = refl
 
 pub refused_ends : (values : Values) (a : Action) (ps : Pieces) (i : ℕ) → refused values a ps ≡ Some i → (x : Action) × (end_of a ≡ Some x) × (has_own_token a ≡ true) × (x ≡ act.EndBlock → ⊥)
-refused_ends values (act.BeginType kind) ps i h = (act.EndType, refl, refl, λ e. cc)
-refused_ends values (act.BeginAttribute kind) ps i h = (act.EndAttribute, refl, refl, λ e. cc)
+refused_ends values (act.Begin sort kind) ps i h = (act.End sort, refl, refl, λ e. cc)
 refused_ends values (act.Operation kind) ps i h = (act.EndOperation, refl, refl, λ e. cc)
 refused_ends values _ ps i h = cc
 
 plain_fault : (values : Values) (text : ℕ → List ℕ) (b : Built) (a : Action) (k : ℕ) → (sort_of a ≡ closing → ⊥) → fault_after values text b a k ≡ None
 plain_fault values text b act.EndOperation k h = absurd (h refl)
-plain_fault values text b act.EndType k h = absurd (h refl)
-plain_fault values text b act.EndAttribute k h = absurd (h refl)
+plain_fault values text b (act.End sort) k h = absurd (h refl)
 plain_fault values text b _ k h = refl
 
 -- the fault with which something ends is met at the action that ends it
@@ -78,8 +75,7 @@ end_fault : (values : Values) (text : ℕ → List ℕ) (x : Action) (first : �
 end_fault values text (act.Operation kind) first before here os a k h = let e : act.EndOperation ≡ a = cc in rw (← e)
 end_fault values text act.BeginRegion first before here os a k h = let e : act.EndRegion ≡ a = cc in rw (← e)
 end_fault values text act.Label first before here os a k h = let e : act.EndBlock ≡ a = cc in rw (← e)
-end_fault values text (act.BeginType kind) first before here os a k h = let e : act.EndType ≡ a = cc in rw (← e)
-end_fault values text (act.BeginAttribute kind) first before here os a k h = let e : act.EndAttribute ≡ a = cc in rw (← e)
+end_fault values text (act.Begin sort kind) first before here os a k h = let e : act.End sort ≡ a = cc in rw (← e)
 end_fault values text act.BeginOperands first before here os a k h = let e : act.EndOperands ≡ a = cc in rw (← e)
 end_fault values text act.BeginSuccessor first before here os a k h = let e : act.EndSuccessor ≡ a = cc in rw (← e)
 end_fault values text act.BeginList first before here os a k h = let e : act.EndList ≡ a = cc in rw (← e)

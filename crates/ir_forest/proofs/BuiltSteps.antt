@@ -2,12 +2,13 @@
 use Rattle.std.proofs.Common.{◌≡◌, ℕ, ◌+◌, ◌-◌, true, false, List, [], ◌∷◌, Option, Some, None, refl, sym, subst, ap, ◌∙◌, ◌⊎◌, inl, inr}
 use Rattle.ir_names.specs.Tree.{Trees}
 use Rattle.ir_grammar.specs.declared.grammar.Action.{Action}
-use Rattle.ir_grammar.specs.declared.grammar.Action.TheVariants.{Result, Operation, EndOperation, BeginRegion, EndRegion, Label, Argument, Header, EndBlock, BeginType, EndType, BeginAttribute, EndAttribute, Name, Number, Width, BeginOperands, Operand, EndOperands, BeginSuccessor, EndSuccessor, BeginList, BeginItem, EndItem, EndList}
+use Rattle.ir_grammar.specs.declared.grammar.Action.TheVariants.{Result, Operation, EndOperation, BeginRegion, EndRegion, Label, Argument, Header, EndBlock, Begin, End, Leaf, BeginOperands, Operand, EndOperands, BeginSuccessor, EndSuccessor, BeginList, BeginItem, EndItem, EndList}
 use Rattle.ir_grammar.specs.declared.grammar.Event.{Event}
 use Rattle.ir_grammar.specs.declared.grammar.Event.TheVariants.{Took, Did}
 use Rattle.ir_forest.specs.Forest.{end_of, is_end, Deed, deeds_from, ActionSpan}
-use Rattle.ir_grammar.specs.Nesting.{Position, at_root, behind_root_results, at_end, in_operation, in_operands, in_successor, in_region, in_header, in_argument, in_block, behind_results, in_type, in_attribute, in_list, in_item, Move, goes_to, goes_in, goes_out, nowhere, move, piece_move, Nests, NestsBy}
+use Rattle.ir_grammar.specs.Nesting.{Position, at_root, behind_root_results, at_end, in_operation, in_operands, in_successor, in_region, in_header, in_argument, in_block, behind_results, in_value, in_list, in_item, Move, goes_to, goes_in, goes_out, nowhere, move, piece_move, Nests, NestsBy}
 use Rattle.ir_forest.specs.Building.{Open, Built, behind, ended_tree, with_end, with_begin, with_leaf, after, built_from}
+use Rattle.ir_print.specs.declared.format.ValueSort.TheVariants as sorts
 use Rattle.ir_forest.specs.Progress.{run}
 
 -- ---- what actions are
@@ -26,13 +27,9 @@ sort_of Label = opening
 sort_of Argument = alone
 sort_of Header = alone
 sort_of EndBlock = closing
-sort_of (BeginType kind) = opening
-sort_of EndType = closing
-sort_of (BeginAttribute kind) = opening
-sort_of EndAttribute = closing
-sort_of Name = alone
-sort_of Number = alone
-sort_of Width = alone
+sort_of (Begin sort kind) = opening
+sort_of (End sort) = closing
+sort_of (Leaf sort) = alone
 sort_of BeginOperands = opening
 sort_of Operand = alone
 sort_of EndOperands = closing
@@ -62,15 +59,12 @@ pub ends_by : (a : Action) → EndsBy (sort_of a) a
 ends_by Result = (refl, refl)
 ends_by Argument = (refl, refl)
 ends_by Header = (refl, refl)
-ends_by Name = (refl, refl)
-ends_by Number = (refl, refl)
-ends_by Width = (refl, refl)
+ends_by (Leaf sort) = (refl, refl)
 ends_by Operand = (refl, refl)
 ends_by EndOperation = (refl, refl)
 ends_by EndRegion = (refl, refl)
 ends_by EndBlock = (refl, refl)
-ends_by EndType = (refl, refl)
-ends_by EndAttribute = (refl, refl)
+ends_by (End sort) = (refl, refl)
 ends_by EndOperands = (refl, refl)
 ends_by EndSuccessor = (refl, refl)
 ends_by EndItem = (refl, refl)
@@ -82,8 +76,7 @@ pub end_sort : (x a : Action) → end_of x ≡ Some a → sort_of a ≡ closing
 end_sort (Operation kind) a h = let e : EndOperation ≡ a = cc in rw (← e)
 end_sort BeginRegion a h = let e : EndRegion ≡ a = cc in rw (← e)
 end_sort Label a h = let e : EndBlock ≡ a = cc in rw (← e)
-end_sort (BeginType kind) a h = let e : EndType ≡ a = cc in rw (← e)
-end_sort (BeginAttribute kind) a h = let e : EndAttribute ≡ a = cc in rw (← e)
+end_sort (Begin sort kind) a h = let e : End sort ≡ a = cc in rw (← e)
 end_sort BeginOperands a h = let e : EndOperands ≡ a = cc in rw (← e)
 end_sort BeginSuccessor a h = let e : EndSuccessor ≡ a = cc in rw (← e)
 end_sort BeginList a h = let e : EndList ≡ a = cc in rw (← e)
@@ -105,8 +98,7 @@ end_at in_header = Some EndBlock
 end_at in_argument = Some EndBlock
 end_at in_block = Some EndBlock
 end_at behind_results = Some EndBlock
-end_at in_type = Some EndType
-end_at in_attribute = Some EndAttribute
+end_at (in_value sort) = Some (End sort)
 end_at in_list = Some EndList
 end_at in_item = Some EndItem
 
@@ -124,11 +116,8 @@ Says p a goes_out = (sort_of a ≡ closing) × (end_at p ≡ Some a)
 Says p a nowhere = Unit {0}
 
 piece_says : (p : Position) (a : Action) → Says p a (piece_move p a)
-piece_says p Name = (refl, refl)
-piece_says p Number = (refl, refl)
-piece_says p Width = (refl, refl)
-piece_says p (BeginType kind) = (refl, refl, refl, tt)
-piece_says p (BeginAttribute kind) = (refl, refl, refl, tt)
+piece_says p (Leaf sort) = (refl, refl)
+piece_says p (Begin sort kind) = (refl, refl, refl, tt)
 piece_says p BeginList = (refl, refl, refl, tt)
 piece_says p _ = tt
 
@@ -160,7 +149,7 @@ header_says Header = (refl, refl)
 header_says _ = tt
 
 argument_says : (a : Action) → Says in_argument a (move in_argument a)
-argument_says (BeginType kind) = (refl, refl, refl, tt)
+argument_says (Begin sorts.«Type» kind) = (refl, refl, refl, tt)
 argument_says _ = tt
 
 block_says : (a : Action) → Says in_block a (move in_block a)
@@ -184,13 +173,13 @@ root_results_says Result = (refl, refl)
 root_results_says (Operation kind) = (refl, refl, refl, inr refl)
 root_results_says _ = tt
 
-type_says : (a : Action) → Says in_type a (move in_type a)
-type_says EndType = (refl, refl)
-type_says a = piece_says in_type a
+type_says : (a : Action) → Says (in_value sorts.«Type») a (move (in_value sorts.«Type») a)
+type_says (End sorts.«Type») = (refl, refl)
+type_says a = piece_says (in_value sorts.«Type») a
 
-attribute_says : (a : Action) → Says in_attribute a (move in_attribute a)
-attribute_says EndAttribute = (refl, refl)
-attribute_says a = piece_says in_attribute a
+attribute_says : (a : Action) → Says (in_value sorts.Attribute) a (move (in_value sorts.Attribute) a)
+attribute_says (End sorts.Attribute) = (refl, refl)
+attribute_says a = piece_says (in_value sorts.Attribute) a
 
 item_says : (a : Action) → Says in_item a (move in_item a)
 item_says EndItem = (refl, refl)
@@ -213,8 +202,8 @@ says in_header a = header_says a
 says in_argument a = argument_says a
 says in_block a = block_says a
 says behind_results a = results_says a
-says in_type a = type_says a
-says in_attribute a = attribute_says a
+says (in_value sorts.«Type») a = type_says a
+says (in_value sorts.Attribute) a = attribute_says a
 says in_list a = list_says a
 says in_item a = item_says a
 

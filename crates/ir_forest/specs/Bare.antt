@@ -1,21 +1,18 @@
--- Which trees have nothing below operands, edges, regions, names and numbers.
+-- Which trees have nothing below operands, edges, regions and leaves.
 use Rattle.std.specs.Prelude.{◌≡◌, ℕ, List, [], ◌∷◌}
 use Rattle.ir_names.specs.Tree.{node, no_tree, a_tree}
-use Rattle.ir_print.specs.Pieces.{type_of_kind, attribute_of_kind, list, item, operands, successor, region, name, number, width, ValueTree, Pieces, Values, EntityHead, operation, a_region, block, Entity, entity, Entities, no_entity, an_entity}
+use Rattle.ir_print.specs.Pieces.{value_of_kind, list, item, operands, successor, region, leaf, ValueTree, Pieces, Values, EntityHead, operation, a_region, block, Entity, entity, Entities, no_entity, an_entity}
 
 abbrev mutual
   -- nothing stands below what has no pieces of its own
   pub IsBare : ValueTree → Type 0
-  IsBare (node (type_of_kind n) ts) = AreBare ts
-  IsBare (node (attribute_of_kind n) ts) = AreBare ts
+  IsBare (node (value_of_kind sort n) ts) = AreBare ts
   IsBare (node list ts) = AreBare ts
   IsBare (node item ts) = AreBare ts
   IsBare (node (operands n) ts) = ts ≡ no_tree
   IsBare (node (successor n) ts) = ts ≡ no_tree
   IsBare (node region ts) = ts ≡ no_tree
-  IsBare (node (name cs) ts) = ts ≡ no_tree
-  IsBare (node (number negative magnitude) ts) = ts ≡ no_tree
-  IsBare (node (width sign bits) ts) = ts ≡ no_tree
+  IsBare (node (leaf x) ts) = ts ≡ no_tree
 
   -- the same of each piece
   pub AreBare : Pieces → Type 0

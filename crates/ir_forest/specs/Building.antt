@@ -60,13 +60,9 @@ after b act.Label k = with_begin b act.Label k
 after b act.Argument k = with_leaf b act.Argument k
 after b act.Header k = with_leaf b act.Header k
 after b act.EndBlock k = with_end b.here b.around k
-after b (act.BeginType kind) k = with_begin b (act.BeginType kind) k
-after b act.EndType k = with_end b.here b.around k
-after b (act.BeginAttribute kind) k = with_begin b (act.BeginAttribute kind) k
-after b act.EndAttribute k = with_end b.here b.around k
-after b act.Name k = with_leaf b act.Name k
-after b act.Number k = with_leaf b act.Number k
-after b act.Width k = with_leaf b act.Width k
+after b (act.Begin sort kind) k = with_begin b (act.Begin sort kind) k
+after b (act.End sort) k = with_end b.here b.around k
+after b (act.Leaf sort) k = with_leaf b (act.Leaf sort) k
 after b act.BeginOperands k = with_begin b act.BeginOperands k
 after b act.Operand k = with_leaf b act.Operand k
 after b act.EndOperands k = with_end b.here b.around k
@@ -128,8 +124,7 @@ fault_at_end values text here (o ∷ os) last = option_map_or (λ i. number_faul
 -- whether an action ends something
 abbrev pub fault_after : Values → (ℕ → List ℕ) → Built → Action → ℕ → Option Fault
 fault_after values text b act.EndOperation k = fault_at_end values text b.here b.around k
-fault_after values text b act.EndType k = fault_at_end values text b.here b.around k
-fault_after values text b act.EndAttribute k = fault_at_end values text b.here b.around k
+fault_after values text b (act.End sort) k = fault_at_end values text b.here b.around k
 fault_after values text b _ k = None
 
 -- the first fault that is met at an end

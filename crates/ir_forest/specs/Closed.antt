@@ -220,14 +220,13 @@ abbrev mutual
   FitTrees f v no_entity = Unit {0}
   FitTrees f v (an_entity t ts) = FitsTree f v t × FitTrees f v ts
 
--- A tree is closed: it is the tree of a text, whatever the names in it are.
+-- A tree is closed: it is the tree of a text, whatever the names and labels in it are.
 pub record IsClosedTree {N : Type 0} (l : Language) (t : Entity N) : Type 0 where
   pub operation : IsOperation l.values t
   pub fits : FitsTree l.formats l.values t
   pub scoped : IsScopedRoot l.isolated t
   pub edges : HasEdges [] t
   pub shallow : IsShallow 64 t
-  pub labelled : IsLabelled t
   pub bare : IsBareTree t
 
 -- Its definitions are the numbers from 0 on, in the order of the text, and so are its blocks.

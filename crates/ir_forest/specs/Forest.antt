@@ -2,7 +2,7 @@
 use Rattle.std.specs.Prelude.{◌≡◌, ℕ, ◌+◌, ◌-◌, List, [], ◌∷◌, ◌++◌, Option, Some, None, Bool, true, false}
 use Rattle.ir_names.specs.Tree.{LabelledTree, Trees, node, no_tree, a_tree}
 use Rattle.ir_grammar.specs.declared.grammar.Action.{Action}
-use Rattle.ir_grammar.specs.declared.grammar.Action.TheVariants.{Operation, EndOperation, BeginRegion, EndRegion, Label, EndBlock, BeginType, EndType, BeginAttribute, EndAttribute, BeginOperands, EndOperands, BeginSuccessor, EndSuccessor, BeginList, BeginItem, EndItem, EndList}
+use Rattle.ir_grammar.specs.declared.grammar.Action.TheVariants.{Operation, EndOperation, BeginRegion, EndRegion, Label, EndBlock, Begin, End, BeginOperands, EndOperands, BeginSuccessor, EndSuccessor, BeginList, BeginItem, EndItem, EndList}
 use Rattle.ir_grammar.specs.declared.grammar.Event.{Event}
 use Rattle.ir_grammar.specs.declared.grammar.Event.TheVariants.{Took, Did}
 
@@ -11,8 +11,7 @@ abbrev pub end_of : Action → Option Action
 end_of (Operation kind) = Some EndOperation
 end_of BeginRegion = Some EndRegion
 end_of Label = Some EndBlock
-end_of (BeginType kind) = Some EndType
-end_of (BeginAttribute kind) = Some EndAttribute
+end_of (Begin sort kind) = Some (End sort)
 end_of BeginOperands = Some EndOperands
 end_of BeginSuccessor = Some EndSuccessor
 end_of BeginList = Some EndList
@@ -24,8 +23,7 @@ abbrev pub is_end : Action → Bool
 is_end EndOperation = true
 is_end EndRegion = true
 is_end EndBlock = true
-is_end EndType = true
-is_end EndAttribute = true
+is_end (End sort) = true
 is_end EndOperands = true
 is_end EndSuccessor = true
 is_end EndItem = true

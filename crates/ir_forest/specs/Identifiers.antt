@@ -4,11 +4,12 @@ use Rattle.ir_names.specs.Text.{is_identifier}
 use Rattle.ir_grammar.specs.declared.grammar.Action.{Action}
 use Rattle.ir_grammar.specs.declared.grammar.Action.TheVariants as act
 use Rattle.ir_grammar.specs.declared.grammar.Event.{Event}
+use Rattle.ir_print.specs.declared.format.LeafSort.TheVariants as leaves
 use Rattle.ir_grammar.specs.declared.grammar.Event.TheVariants.{Took, Did}
 
 -- an action that keeps a name, done behind a token of these characters, comes behind an identifier
 abbrev pub IsSpelt : Action → List ℕ → Type 0
-IsSpelt act.Name cs = is_identifier cs ≡ true
+IsSpelt (act.Leaf leaves.Name) cs = is_identifier cs ≡ true
 IsSpelt act.Label cs = is_identifier cs ≡ true
 IsSpelt _ cs = Unit {0}
 

@@ -2,7 +2,10 @@
 use Rattle.std.specs.Prelude.{ℕ, ◌+◌, ◌*◌, ◌-◌, ◌==◌, List, [], ◌∷◌, ◌++◌, map, true, false, if◌then◌else◌}
 use Rattle.ir_names.specs.declared.kinds.Signedness.TheVariants.{Signless, Signed, Unsigned}
 use Rattle.ir_names.specs.Tree.{Trees, node, no_tree, a_tree, count}
-use Rattle.ir_print.specs.Pieces.{Piece, type_of_kind, attribute_of_kind, list, item, operands, successor, region, name, number, width, ValueTree, Pieces, Values, EntityHead, operation, a_region, block, Entity, entity, Entities, no_entity, an_entity}
+use Rattle.ir_print.specs.declared.format.ValueSort.TheVariants as sorts
+use Rattle.ir_print.specs.declared.format.LeafSort.{LeafSort}
+use Rattle.ir_print.specs.declared.format.LeafSort.TheVariants as leaves
+use Rattle.ir_print.specs.Pieces.{Leaf, name, number, width, Piece, value_of_kind, list, item, operands, successor, region, leaf, ValueTree, Pieces, Values, canonical_value, EntityHead, operation, a_region, block, Entity, entity, Entities, no_entity, an_entity}
 use Rattle.ir_grammar.specs.declared.grammar.Action.{Action}
 use Rattle.ir_grammar.specs.declared.grammar.Action.TheVariants as act
 use Rattle.ir_forest.specs.Forest.{ActionSpan}
@@ -19,7 +22,7 @@ abbrev pub digits : List ℕ → ℕ
 digits cs = digits_from 0 cs
 
 -- a number token, which may begin with `-` (45)
-abbrev pub number_in : List ℕ → Piece
+abbrev pub number_in : List ℕ → Leaf
 number_in [] = number false 0
 number_in (c ∷ cs) = if c == 45 then number true (digits cs) else number false (digits (c ∷ cs))
 
@@ -29,26 +32,29 @@ tail [] = []
 tail (c ∷ cs) = cs
 
 -- a width token: `i`, `si` or `ui` and digits (`s` is 115, `u` 117)
-abbrev pub width_in : List ℕ → Piece
+abbrev pub width_in : List ℕ → Leaf
 width_in [] = width Signless 0
 width_in (c ∷ cs) =
     if c == 115 then width Signed (digits (tail cs))
     else (if c == 117 then width Unsigned (digits (tail cs)) else width Signless (digits cs))
 
+-- what a token says that is a leaf of a sort
+abbrev pub leaf_in : LeafSort → List ℕ → Leaf
+leaf_in leaves.Name cs = name cs
+leaf_in leaves.Number cs = number_in cs
+leaf_in leaves.Width cs = width_in cs
+
 -- ---- types, attributes, and what operations say
 
--- A step, with the pieces that are in it, as a piece. An attribute says what the dialect makes of its pieces.
+-- A step, with the pieces that are in it, as a piece. A value says what the dialect makes of its pieces.
 abbrev pub with_piece : Values → Action → List ℕ → ℕ → Pieces → Pieces → Pieces
-with_piece values (act.BeginType kind) text many ts rest = a_tree (node (type_of_kind kind) ts) rest
-with_piece values (act.BeginAttribute kind) text many ts rest = a_tree (node (attribute_of_kind kind) (values.canonical kind ts)) rest
+with_piece values (act.Begin sort kind) text many ts rest = a_tree (node (value_of_kind sort kind) (canonical_value values sort kind ts)) rest
 with_piece values act.BeginList text many ts rest = a_tree (node list ts) rest
 with_piece values act.BeginItem text many ts rest = a_tree (node item ts) rest
 with_piece values act.BeginOperands text many ts rest = a_tree (node (operands many) no_tree) rest
 with_piece values act.BeginSuccessor text many ts rest = a_tree (node (successor many) no_tree) rest
 with_piece values act.BeginRegion text many ts rest = a_tree (node region no_tree) rest
-with_piece values act.Name text many ts rest = a_tree (node (name text) no_tree) rest
-with_piece values act.Number text many ts rest = a_tree (node (number_in text) no_tree) rest
-with_piece values act.Width text many ts rest = a_tree (node (width_in text) no_tree) rest
+with_piece values (act.Leaf sort) text many ts rest = a_tree (node (leaf (leaf_in sort text)) no_tree) rest
 with_piece values _ text many ts rest = rest
 
 -- the pieces that steps say, in their order; other steps say none
@@ -87,7 +93,7 @@ by_successor _ x y = y
 -- one of four, by whether the action names an argument, begins a type of a kind, ends a header, or does none of these
 abbrev pub by_argument : {X : Type 0} → Action → X → (ℕ → X) → X → X → X
 by_argument act.Argument x f y z = x
-by_argument (act.BeginType kind) x f y z = f kind
+by_argument (act.Begin sorts.«Type» kind) x f y z = f kind
 by_argument act.Header x f y z = y
 by_argument _ x f y z = z
 
@@ -111,7 +117,7 @@ abbrev pub arguments_in : Values → (ℕ → List ℕ) → ℕ → Trees Action
 arguments_in values text named no_tree = []
 arguments_in values text named (a_tree (node s ts) rest) = by_argument s.action
     (arguments_in values text s.first rest)
-    (λ kind. (named, node (type_of_kind kind) (pieces_in values text ts)) ∷ arguments_in values text named rest)
+    (λ kind. (named, node (value_of_kind sorts.«Type» kind) (pieces_in values text ts)) ∷ arguments_in values text named rest)
     []
     (arguments_in values text named rest)
 

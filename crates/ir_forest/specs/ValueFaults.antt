@@ -1,7 +1,7 @@
 -- Faults of the types, attributes and operations of a text.
 use Rattle.std.specs.Prelude.{◌≡◌, ◌≢◌, ℕ, zero, suc, List, [], ◌∷◌, ◌++◌, map, length, Option, Some, None}
 use Rattle.ir_names.specs.Tree.{Trees, node, no_tree, a_tree}
-use Rattle.ir_print.specs.Pieces.{Pieces, Values}
+use Rattle.ir_print.specs.Pieces.{Pieces, Values, refused_value}
 use Rattle.ir_grammar.specs.declared.grammar.Action.{Action}
 use Rattle.ir_grammar.specs.declared.grammar.Action.TheVariants as act
 use Rattle.ir_grammar.specs.declared.grammar.Event.{Event}
@@ -12,8 +12,7 @@ use Rattle.ir_forest.specs.Meaning.{pieces_in}
 
 -- the number of the first piece that is refused in what an action begins
 abbrev pub refused : Values → Action → Pieces → Option ℕ
-refused values (act.BeginType kind) ps = values.refused_type kind ps
-refused values (act.BeginAttribute kind) ps = values.refused_attribute kind ps
+refused values (act.Begin sort kind) ps = refused_value values sort kind ps
 refused values (act.Operation kind) ps = values.refused_operation kind ps
 refused values _ ps = None
 

@@ -17,8 +17,9 @@ use Rattle.ir_grammar.specs.declared.grammar.Stop.{Stop}
 use Rattle.ir_grammar.specs.declared.grammar.Stop.TheVariants.{Text, Stuck, Deep}
 use Rattle.ir_grammar.specs.Reading.{through, Reads}
 use Rattle.ir_formats.specs.Rules.{plain_rule, plain_rules}
-use Rattle.ir_grammar.specs.Nesting.{names_value_or_block, OwnTokens, Position, at_root, behind_root_results, at_end, in_operation, in_operands, in_successor, in_region, in_header, in_argument, in_block, behind_results, in_type, in_attribute, in_list, in_item, Move, goes_to, goes_in, goes_out, nowhere, move, Nests, NestsBy, has_own_token, FollowTokens}
+use Rattle.ir_grammar.specs.Nesting.{names_value_or_block, OwnTokens, Position, at_root, behind_root_results, at_end, in_operation, in_operands, in_successor, in_region, in_header, in_argument, in_block, behind_results, in_value, in_list, in_item, Move, goes_to, goes_in, goes_out, nowhere, move, Nests, NestsBy, has_own_token, FollowTokens}
 use Rattle.ir_formats.specs.Ordered.{Standing, alone, moved_out, moved_by, moved, passed, passed_all, number_of_position, is_same_position, PartPositions, led_from, placed, led, walked, walked_all, is_alone_at, is_alone, lead_so, follow_signs, is_rule_ordered, are_rules_ordered, is_ordered, LeadsToPosition, IsInOrder, OrdersTexts}
+use Rattle.ir_print.specs.declared.format.ValueSort.TheVariants as sorts
 use Rattle.ir_formats.proofs.Booleans.{both_hold}
 
 pub nothing : {A : Type 0} {C : Type 0} {x : A} → None ≡ Some x → C
@@ -31,7 +32,7 @@ inner e = cc
 
 -- the position with a number
 position_at : ℕ → Position
-position_at n = slice_index_or (at_root ∷ behind_root_results ∷ at_end ∷ in_operation ∷ in_operands ∷ in_region ∷ in_header ∷ in_argument ∷ in_block ∷ behind_results ∷ in_type ∷ in_attribute ∷ in_list ∷ in_item ∷ in_successor ∷ []) n at_end
+position_at n = slice_index_or (at_root ∷ behind_root_results ∷ at_end ∷ in_operation ∷ in_operands ∷ in_region ∷ in_header ∷ in_argument ∷ in_block ∷ behind_results ∷ (in_value sorts.«Type») ∷ (in_value sorts.Attribute) ∷ in_list ∷ in_item ∷ in_successor ∷ []) n at_end
 
 position_back : (p : Position) → position_at (number_of_position p) ≡ p
 unfolding position_at
@@ -45,8 +46,8 @@ position_back in_header = refl
 position_back in_argument = refl
 position_back in_block = refl
 position_back behind_results = refl
-position_back in_type = refl
-position_back in_attribute = refl
+position_back (in_value sorts.«Type») = refl
+position_back (in_value sorts.Attribute) = refl
 position_back in_list = refl
 position_back in_item = refl
 position_back in_successor = refl

@@ -8,7 +8,8 @@ use Rattle.ir_grammar.specs.declared.grammar.Event.TheVariants.{Took, Did}
 use Rattle.ir_grammar.specs.declared.grammar.Grammar.{Grammar}
 use Rattle.ir_grammar.specs.Grammar.{IsTextOf}
 use Rattle.ir_formats.specs.Rules.{PlainRule}
-use Rattle.ir_grammar.specs.Nesting.{Position, at_root, behind_root_results, at_end, in_operation, in_operands, in_successor, in_region, in_header, in_argument, in_block, behind_results, in_type, in_attribute, in_list, in_item, Move, goes_to, goes_in, goes_out, nowhere, move, Nests, has_own_token, FollowTokens}
+use Rattle.ir_print.specs.declared.format.ValueSort.TheVariants as sorts
+use Rattle.ir_grammar.specs.Nesting.{Position, at_root, behind_root_results, at_end, in_operation, in_operands, in_successor, in_region, in_header, in_argument, in_block, behind_results, in_value, in_list, in_item, Move, goes_to, goes_in, goes_out, nowhere, move, Nests, has_own_token, FollowTokens}
 
 -- ---- where what is read leads to
 
@@ -66,8 +67,8 @@ number_of_position in_header = 6
 number_of_position in_argument = 7
 number_of_position in_block = 8
 number_of_position behind_results = 9
-number_of_position in_type = 10
-number_of_position in_attribute = 11
+number_of_position (in_value sorts.«Type») = 10
+number_of_position (in_value sorts.Attribute) = 11
 number_of_position in_list = 12
 number_of_position in_item = 13
 number_of_position in_successor = 14
@@ -155,7 +156,7 @@ body_leads = (at_root, at_end) ∷ (behind_root_results, at_end) ∷ stays in_bl
 
 -- where pieces of a text may stand that a format gives
 abbrev pub piece_leads : List (Position × Position)
-piece_leads = stays in_operation ∷ stays in_type ∷ stays in_attribute ∷ stays in_item ∷ []
+piece_leads = stays in_operation ∷ stays (in_value sorts.«Type») ∷ stays (in_value sorts.Attribute) ∷ stays in_item ∷ []
 
 -- Parts 0 to 13, in their order: root, operation, more_results, body, region, blocks, block, arguments, more_arguments, argument,
 -- operations, more_operations, type_part and attribute.

@@ -4,7 +4,11 @@ use Rattle.std.specs.Borrow.{Bor}
 use Rattle.std.specs.List.{range_with_len}
 use Rattle.std.specs.Str.{bytes_eq}
 use Rattle.ir_names.specs.Text.{is_identifier}
-use Rattle.ir_print.specs.Formats.{Formats, Kind, Step, Steps, word, operands, operand, successor, an_attribute, a_type, a_region, symbol_name, a_name, a_number, a_width, list_of, no_steps, step}
+use Rattle.ir_print.specs.Formats.{Formats, Kind, Step, Steps, word, operands, operand, successor, a_value, a_region, symbol_name, a_leaf, list_of, no_steps, step}
+use Rattle.ir_print.specs.declared.format.ValueSort.{ValueSort}
+use Rattle.ir_print.specs.declared.format.ValueSort.TheVariants as sorts
+use Rattle.ir_print.specs.declared.format.LeafSort.{LeafSort}
+use Rattle.ir_print.specs.declared.format.LeafSort.TheVariants as leaves
 use Rattle.ir_grammar.specs.declared.grammar.Action.{Action}
 use Rattle.ir_grammar.specs.declared.grammar.Action.TheVariants as act
 use Rattle.ir_grammar.specs.declared.grammar.Symbol.{Symbol}
@@ -47,13 +51,10 @@ abbrev mutual
   words_in_step operands = codes "," ∷ []
   words_in_step operand = []
   words_in_step successor = codes "," ∷ []
-  words_in_step an_attribute = []
-  words_in_step a_type = []
+  words_in_step (a_value sort) = []
   words_in_step a_region = []
   words_in_step symbol_name = codes "@" ∷ []
-  words_in_step a_name = []
-  words_in_step a_number = []
-  words_in_step a_width = []
+  words_in_step (a_leaf sort) = []
   words_in_step (list_of member printed separator) = separator ∷ words_in member
 
   -- the words in a format
@@ -232,6 +233,17 @@ list_made n separator member = record {
   next = member.next;
 }
 
+-- the part of a value
+abbrev pub value_part : ValueSort → ℕ
+value_part sorts.«Type» = type_part
+value_part sorts.Attribute = attribute
+
+-- the sign of a leaf
+abbrev pub leaf_sign : LeafSort → Symbol
+leaf_sign leaves.Name = name
+leaf_sign leaves.Number = number
+leaf_sign leaves.Width = width
+
 abbrev mutual
   -- what a step makes, n being the part of the next list
   pub step_made : List (List ℕ) → Step → ℕ → MadeOfSteps
@@ -247,13 +259,10 @@ abbrev mutual
     rules = several n (sign ws (codes ",")) (name ∷ Act act.Operand ∷ []);
     next = up n 2;
   }
-  step_made ws an_attribute n = just (Part attribute ∷ []) n
-  step_made ws a_type n = just (Part type_part ∷ []) n
+  step_made ws (a_value sort) n = just (Part (value_part sort) ∷ []) n
   step_made ws a_region n = just (Part region ∷ []) n
-  step_made ws symbol_name n = just (sign ws (codes "@") ∷ name ∷ Act act.Name ∷ []) n
-  step_made ws a_name n = just (name ∷ Act act.Name ∷ []) n
-  step_made ws a_number n = just (number ∷ Act act.Number ∷ []) n
-  step_made ws a_width n = just (width ∷ Act act.Width ∷ []) n
+  step_made ws symbol_name n = just (sign ws (codes "@") ∷ name ∷ Act (act.Leaf leaves.Name) ∷ []) n
+  step_made ws (a_leaf sort) n = just (leaf_sign sort ∷ Act (act.Leaf sort) ∷ []) n
   step_made ws (list_of member printed separator) n = list_made n (sign ws separator) (steps_made ws member (up n 2))
 
   -- what the steps of a format make
@@ -270,14 +279,14 @@ part_of sort.Attribute = attribute
 -- what is done behind the id of a kind
 abbrev pub begin_of : Sort → ℕ → Action
 begin_of sort.Operation i = act.Operation i
-begin_of sort.«Type» i = act.BeginType i
-begin_of sort.Attribute i = act.BeginAttribute i
+begin_of sort.«Type» i = act.Begin sorts.«Type» i
+begin_of sort.Attribute i = act.Begin sorts.Attribute i
 
 -- what is done at the end of a text of a kind
 abbrev pub end_of : Sort → Action
 end_of sort.Operation = act.EndOperation
-end_of sort.«Type» = act.EndType
-end_of sort.Attribute = act.EndAttribute
+end_of sort.«Type» = act.End sorts.«Type»
+end_of sort.Attribute = act.End sorts.Attribute
 
 -- the kinds of a sort
 abbrev pub kinds_of : Formats → Sort → List Kind

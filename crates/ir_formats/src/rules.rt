@@ -15,7 +15,7 @@ ghost use Rattle.ir_formats.specs.Making.{kind_of, formats_of, frame_rules, give
 use crate::given::{PartTable, facts_of};
 use ir_grammar::grammar::{Action, Class, Facts, Grammar, Rule, Symbol};
 use ir_names::Identifier;
-use ir_print::Directive;
+use ir_print::{Directive, LeafSort, ValueSort};
 use std::alloc::{AllocError, Global};
 
 /// What a token is by its shape alone. A word that the grammar knows has a kind of its own, behind these.
@@ -126,8 +126,8 @@ impl Sort {
     {
         match self {
             Sort::Operation => Action::Operation(number),
-            Sort::Type => Action::BeginType(number),
-            Sort::Attribute => Action::BeginAttribute(number),
+            Sort::Type => Action::Begin(ValueSort::Type, number),
+            Sort::Attribute => Action::Begin(ValueSort::Attribute, number),
         }
     }
 
@@ -137,8 +137,8 @@ impl Sort {
     {
         match self {
             Sort::Operation => Action::EndOperation,
-            Sort::Type => Action::EndType,
-            Sort::Attribute => Action::EndAttribute,
+            Sort::Type => Action::End(ValueSort::Type),
+            Sort::Attribute => Action::End(ValueSort::Attribute),
         }
     }
 }
@@ -437,7 +437,7 @@ impl RuleMaker {
                 symbols.extend_from_slice(&[
                     self.sign("@"),
                     Symbol::Sign(NAME_SIGN),
-                    Symbol::Act(Action::Name),
+                    Symbol::Act(Action::Leaf(LeafSort::Name)),
                 ])
             }
             Directive::Operand => {
@@ -452,13 +452,13 @@ impl RuleMaker {
             Directive::Type => symbols.extend_from_slice(&[Symbol::Part(TYPE)]),
             Directive::Region => symbols.extend_from_slice(&[Symbol::Part(REGION)]),
             Directive::Name => {
-                symbols.extend_from_slice(&[Symbol::Sign(NAME_SIGN), Symbol::Act(Action::Name)])
+                symbols.extend_from_slice(&[Symbol::Sign(NAME_SIGN), Symbol::Act(Action::Leaf(LeafSort::Name))])
             }
             Directive::Number => {
-                symbols.extend_from_slice(&[Symbol::Sign(NUMBER_SIGN), Symbol::Act(Action::Number)])
+                symbols.extend_from_slice(&[Symbol::Sign(NUMBER_SIGN), Symbol::Act(Action::Leaf(LeafSort::Number))])
             }
             Directive::Width => {
-                symbols.extend_from_slice(&[Symbol::Sign(WIDTH_SIGN), Symbol::Act(Action::Width)])
+                symbols.extend_from_slice(&[Symbol::Sign(WIDTH_SIGN), Symbol::Act(Action::Leaf(LeafSort::Width))])
             }
             Directive::Operands | Directive::Successor | Directive::List(_, _) => Ok(()),
         }

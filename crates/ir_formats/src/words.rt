@@ -12,6 +12,7 @@ ghost use Rattle.ir_formats.specs.Words.{spellings, text_of, is_width, are_digit
 use crate::rules::{SHAPES, Shape};
 use indexmap::IndexSet;
 use ir_characters::{Characters, Text};
+use ir_hashing::TextKey;
 use ir_tokens::numbers::Numbers;
 use ir_tokens::scan::is_digit;
 use ir_tokens::tokens::{Token, TokenKind, token_at};
@@ -175,7 +176,10 @@ fn spelled_kind(number: usize, words: usize, kind: TokenKind, text: Text) -> u32
 
 /// The number of a text among those that came before, and whether it is a new one, which is added.
 #[inline]
-fn name_of<'a>(known: &mut IndexSet<Text<'a>>, text: Text<'a>) -> Result<(usize, bool), AllocError>
+fn name_of<'a>(
+    known: &mut IndexSet<Text<'a>, TextKey>,
+    text: Text<'a>,
+) -> Result<(usize, bool), AllocError>
     ensures known { OnOk result (map codes_of known.new.keys ≡ with_word (map codes_of known.old.keys)
         (codes_of text.entry)) }
     ensures number { IfOk result (λ r. r.0 ≡ number_of (map codes_of known.old.keys) (codes_of text.entry)) }
@@ -219,7 +223,7 @@ fn guess_place(text: Text) -> usize {
 
 /// Whether this is the number of a text that is known.
 #[inline]
-fn has_number(known: &IndexSet<Text>, text: Text, number: usize) -> bool
+fn has_number(known: &IndexSet<Text, TextKey>, text: Text, number: usize) -> bool
     ensures { result ≡ true → (number ≡ number_of (map codes_of known.now.keys) (codes_of text.entry))
         × (number < length (map codes_of known.now.keys)) }
 {
@@ -233,7 +237,12 @@ fn has_number(known: &IndexSet<Text>, text: Text, number: usize) -> bool
 }
 
 /// The number of a text that is known, where the guess at a place is right.
-fn guessed(known: &IndexSet<Text>, guesses: &[usize], place: usize, text: Text) -> Option<usize>
+fn guessed(
+    known: &IndexSet<Text, TextKey>,
+    guesses: &[usize],
+    place: usize,
+    text: Text,
+) -> Option<usize>
     ensures { IfSome result (λ name. (name ≡ number_of (map codes_of known.now.keys) (codes_of text.entry))
         × (name < length (map codes_of known.now.keys))) }
 {
@@ -258,7 +267,8 @@ struct Classed {
 /// Texts, each with a number. Those of the grammar's words come first.
 #[derive(Drop)]
 struct Spellings<'a> {
-    known: IndexSet<Text<'a>>,
+    /// The names of a text are found by a hash that the text keys, so that none can be chosen to be slow.
+    known: IndexSet<Text<'a>, TextKey>,
     /// For each of the first known texts the number of the word that it is. Texts behind these are no words.
     words: Vec<usize>,
     /// The number that was looked up last at each place of guesses.
@@ -269,7 +279,12 @@ struct Spellings<'a> {
 
 impl<'a> Spellings<'a> {
     /// No texts, with room for so many words among so many texts.
-    fn with_capacity(alloc: Global, words: usize, texts: usize) -> Result<Self, AllocError>
+    fn with_capacity(
+        alloc: Global,
+        key: TextKey,
+        words: usize,
+        texts: usize,
+    ) -> Result<Self, AllocError>
         ensures known { IfOk result (λ s. s.known.keys ≡ []) }
         ensures words { IfOk result (λ s. s.words.items ≡ []) }
         ensures signs { IfOk result (λ s. s.signs.items ≡ replicate 128 None) }
@@ -278,7 +293,7 @@ impl<'a> Spellings<'a> {
             signs: vec![in alloc; None; SIGNS]?,
             guesses: vec![in alloc; 0usize; GUESSES]?,
             words: Vec::with_capacity(alloc, words)?,
-            known: IndexSet::with_capacity(alloc, texts)?,
+            known: IndexSet::with_capacity_and_hasher(alloc, texts, key)?,
         })
     }
 
@@ -296,14 +311,19 @@ impl<'a> Spellings<'a> {
         Ok(())
     }
 
-    /// The words of a grammar, with room for the names of so many tokens.
-    fn new(alloc: Global, words: &'a [Characters], tokens: usize) -> Result<Self, AllocError>
+    /// The words of a grammar, with room for the names of so many tokens of the text that gives this key.
+    fn new(
+        alloc: Global,
+        key: TextKey,
+        words: &'a [Characters],
+        tokens: usize,
+    ) -> Result<Self, AllocError>
         ensures words { IfOk result (λ s. NumbersWords (spellings words.now) (known_texts s) s.words.items) }
         ensures signs { IfOk result (λ s. AreSigns (spellings words.now) (known_texts s) s.signs.items) }
     {
         // Most texts have more than eight tokens for each name.
         let texts = words.len() + tokens / 8;
-        let mut spellings = Spellings::with_capacity(alloc, words.len(), texts)?;
+        let mut spellings = Spellings::with_capacity(alloc, key, words.len(), texts)?;
         for (number, word) in words.iter().enumerate() {
             spellings.add_word(number, word.as_text())?;
         }
@@ -483,7 +503,7 @@ fn add_tokens(
     ensures { IfOk result (λ end. (ts : List Token) × AreClassified (spellings words.now) (codes_of chars.entry) ts
         (classified.new.starts ++ end ∷ []) classified.new.kinds.items classified.new.names) }
 {
-    let mut spellings = Spellings::new(alloc, words, tokens)?;
+    let mut spellings = Spellings::new(alloc, chars.key(), words, tokens)?;
     spellings.classify(words, chars, classified)
 }
 
@@ -491,7 +511,7 @@ fn add_tokens(
 ///
 /// White space may stand between tokens, and each token is the longest that begins at its place. A bad one is the last.
 /// The only error is that memory is refused. The time is linear in the characters, if a look-up in a hash table counts as
-/// one step.
+/// one step. The text keys the hash, so that no names can be chosen for which it doesn't.
 pub fn classify(alloc: Global, words: &[Characters], chars: Text) -> Result<Classified, AllocError>
     ensures { IfOk result (λ c. (ts : List Token)
         × AreClassified (spellings words.now) (codes_of chars.entry) ts c.starts c.kinds.items c.names) }

@@ -2,7 +2,9 @@
 use Rattle.std.specs.Prelude.{◌≡◌, List, [], ◌∷◌, Bool, true, false}
 use Rattle.std.specs.Bool.{MatchBool}
 use Rattle.ir_grammar.specs.declared.grammar.Action.{Action}
-use Rattle.ir_grammar.specs.declared.grammar.Action.TheVariants.{Result, Operation, EndOperation, BeginRegion, EndRegion, Label, Argument, Header, EndBlock, BeginType, EndType, BeginAttribute, EndAttribute, Name, Number, Width, BeginOperands, Operand, EndOperands, BeginSuccessor, EndSuccessor, BeginList, BeginItem, EndItem, EndList}
+use Rattle.ir_grammar.specs.declared.grammar.Action.TheVariants.{Result, Operation, EndOperation, BeginRegion, EndRegion, Label, Argument, Header, EndBlock, Begin, End, Leaf, BeginOperands, Operand, EndOperands, BeginSuccessor, EndSuccessor, BeginList, BeginItem, EndItem, EndList}
+use Rattle.ir_print.specs.declared.format.ValueSort.{ValueSort}
+use Rattle.ir_print.specs.declared.format.ValueSort.TheVariants as sorts
 use Rattle.ir_grammar.specs.declared.grammar.Event.{Event}
 use Rattle.ir_grammar.specs.declared.grammar.Event.TheVariants.{Took, Did}
 
@@ -16,8 +18,9 @@ pub data Position : Type 0 where
   in_header in_argument : Position
   -- among the operations of a block, behind names of results
   in_block behind_results : Position
-  -- in a type, in an attribute, in a list, in a member of a list
-  in_type in_attribute in_list in_item : Position
+  -- in a value, in a list, in a member of a list
+  in_value : ValueSort → Position
+  in_list in_item : Position
 
 -- What an action may do at a position: it leaves reading at another one, it begins something, or it ends what is begun.
 pub data Move : Type 0 where
@@ -29,11 +32,8 @@ pub data Move : Type 0 where
 
 -- what an action does among the pieces of a type, an attribute, a member or an operation
 abbrev pub piece_move : Position → Action → Move
-piece_move at Name = goes_to at
-piece_move at Number = goes_to at
-piece_move at Width = goes_to at
-piece_move at (BeginType kind) = goes_in in_type at
-piece_move at (BeginAttribute kind) = goes_in in_attribute at
+piece_move at (Leaf sort) = goes_to at
+piece_move at (Begin sort kind) = goes_in (in_value sort) at
 piece_move at BeginList = goes_in in_list at
 piece_move at _ = nowhere
 
@@ -44,13 +44,15 @@ operation_move BeginOperands = goes_in in_operands in_operation
 operation_move BeginSuccessor = goes_in in_successor in_operation
 operation_move a = piece_move in_operation a
 
-abbrev pub type_move : Action → Move
-type_move EndType = goes_out
-type_move a = piece_move in_type a
+-- A value of a sort is ended as one of this sort.
+abbrev pub end_move : ValueSort → ValueSort → Move
+end_move sorts.«Type» sorts.«Type» = goes_out
+end_move sorts.Attribute sorts.Attribute = goes_out
+end_move _ _ = nowhere
 
-abbrev pub attribute_move : Action → Move
-attribute_move EndAttribute = goes_out
-attribute_move a = piece_move in_attribute a
+abbrev pub value_move : ValueSort → Action → Move
+value_move sort (End s) = end_move sort s
+value_move sort a = piece_move (in_value sort) a
 
 abbrev pub item_move : Action → Move
 item_move EndItem = goes_out
@@ -82,7 +84,7 @@ header_move Header = goes_to in_block
 header_move _ = nowhere
 
 abbrev pub argument_move : Action → Move
-argument_move (BeginType kind) = goes_in in_type in_header
+argument_move (Begin sorts.«Type» kind) = goes_in (in_value sorts.«Type») in_header
 argument_move _ = nowhere
 
 abbrev pub block_move : Action → Move
@@ -114,8 +116,7 @@ move in_header a = header_move a
 move in_argument a = argument_move a
 move in_block a = block_move a
 move behind_results a = results_move behind_results in_block a
-move in_type a = type_move a
-move in_attribute a = attribute_move a
+move (in_value sort) a = value_move sort a
 move in_list a = list_move a
 move in_item a = item_move a
 
@@ -141,11 +142,8 @@ has_own_token BeginRegion = true
 has_own_token EndRegion = true
 has_own_token Label = true
 has_own_token Argument = true
-has_own_token (BeginType kind) = true
-has_own_token (BeginAttribute kind) = true
-has_own_token Name = true
-has_own_token Number = true
-has_own_token Width = true
+has_own_token (Begin sort kind) = true
+has_own_token (Leaf sort) = true
 has_own_token Operand = true
 has_own_token BeginSuccessor = true
 has_own_token _ = false

@@ -1,7 +1,7 @@
 -- What is read, and where it is refused.
 use Rattle.std.specs.Prelude.{◌≡◌, Bool, true, false, ℕ, zero, suc, ◌+◌, ◌<◌, ◌≤◌, List, [], ◌∷◌, ◌++◌, ◌-◌, ◌⊎◌, Option, Some, None, cond, take, length}
 use Rattle.ir_grammar.specs.declared.grammar.Action.{Action}
-use Rattle.ir_grammar.specs.declared.grammar.Action.TheVariants.{BeginRegion, EndRegion, BeginType, EndType, BeginAttribute, EndAttribute, BeginItem}
+use Rattle.ir_grammar.specs.declared.grammar.Action.TheVariants.{BeginRegion, EndRegion, Begin, End, BeginItem}
 use Rattle.ir_grammar.specs.declared.grammar.Event.{Event}
 use Rattle.ir_grammar.specs.declared.grammar.Event.TheVariants.{Took, Did}
 use Rattle.ir_grammar.specs.declared.grammar.Grammar.{Grammar}
@@ -60,15 +60,13 @@ pub record IsMost (g : Grammar) (root : ℕ) (front : List ℕ) (es : List Event
 -- the action begins a part that counts for the depth: a region, a type or an attribute
 abbrev pub opens : Action → Bool
 opens BeginRegion = true
-opens (BeginType kind) = true
-opens (BeginAttribute kind) = true
+opens (Begin sort kind) = true
 opens _ = false
 
 -- the action ends such a part
 abbrev pub closes : Action → Bool
 closes EndRegion = true
-closes EndType = true
-closes EndAttribute = true
+closes (End sort) = true
 closes _ = false
 
 -- how many parts are open after an action, with d open before

@@ -10,6 +10,7 @@ ghost use Rattle.ir_grammar.specs.Reading.{Reads, IsFirstDeep, opens, closes, be
 ghost use Rattle.ir_grammar.specs.Pending.{unread};
 
 use crate::pending::Pending;
+use ir_print::{LeafSort, ValueSort};
 use std::alloc::{AllocError, Global};
 
 /// Something that reading does at the token before it.
@@ -33,20 +34,12 @@ pub enum Action {
     Header,
     /// A block with its operations has been read.
     EndBlock,
-    /// A type of the kind with this number begins.
-    BeginType(u8),
-    /// The type has been read.
-    EndType,
-    /// An attribute of the kind with this number begins.
-    BeginAttribute(u8),
-    /// The attribute has been read.
-    EndAttribute,
-    /// The name is a part of what is being read.
-    Name,
-    /// The number is a part of what is being read.
-    Number,
-    /// The width is a part of what is being read.
-    Width,
+    /// A value of this sort and of the kind with this number begins.
+    Begin(ValueSort, u8),
+    /// The value has been read.
+    End(ValueSort),
+    /// The token is a part of what is being read.
+    Leaf(LeafSort),
     /// A list of operands begins behind this token.
     BeginOperands,
     /// The name mentions a value.
@@ -166,8 +159,8 @@ impl Action {
         ensures { result ≡ cond (opens self) change.Opens (cond (closes self) change.Closes change.Keeps) }
     {
         match self {
-            Action::BeginRegion | Action::BeginType(_) | Action::BeginAttribute(_) => Change::Opens,
-            Action::EndRegion | Action::EndType | Action::EndAttribute => Change::Closes,
+            Action::BeginRegion | Action::Begin(_, _) => Change::Opens,
+            Action::EndRegion | Action::End(_) => Change::Closes,
             _ => Change::Keeps,
         }
     }

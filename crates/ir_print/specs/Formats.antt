@@ -2,6 +2,10 @@
 use Rattle.std.specs.Prelude.{ℕ, Bool, List, [], ◌∷◌, ◌&&◌, map, length, nat_le}
 use Rattle.std.specs.Str.{trim}
 use Rattle.ir_print.specs.declared.format.Directive.{Directive, Directive-F, fold-Directive}
+use Rattle.ir_print.specs.declared.format.ValueSort.{ValueSort}
+use Rattle.ir_print.specs.declared.format.ValueSort.TheVariants as sorts
+use Rattle.ir_print.specs.declared.format.LeafSort.{LeafSort}
+use Rattle.ir_print.specs.declared.format.LeafSort.TheVariants as leaves
 
 mutual
   -- What a directive stands for in a text. A word stands as it is printed, with the spaces around it, and as it is read, without them.
@@ -12,13 +16,13 @@ mutual
     operand : Step
     -- an edge to a block, with the operands that it hands on
     successor : Step
-    an_attribute : Step
-    a_type : Step
+    -- a type or an attribute
+    a_value : ValueSort → Step
     a_region : Step
+    -- `@` and a name
     symbol_name : Step
-    a_name : Step
-    a_number : Step
-    a_width : Step
+    -- one token of a sort
+    a_leaf : LeafSort → Step
     -- what a member is, and the word between two
     list_of : Steps → (printed text : List ℕ) → Step
 
@@ -38,13 +42,13 @@ step_by (Directive-F.Literal text) = word text.now (trim text.now)
 step_by Directive-F.Operands = operands
 step_by Directive-F.Operand = operand
 step_by Directive-F.Successor = successor
-step_by Directive-F.Attribute = an_attribute
-step_by Directive-F.«Type» = a_type
+step_by Directive-F.Attribute = a_value sorts.Attribute
+step_by Directive-F.«Type» = a_value sorts.«Type»
 step_by Directive-F.Region = a_region
 step_by Directive-F.SymbolHeader = symbol_name
-step_by Directive-F.Name = a_name
-step_by Directive-F.Number = a_number
-step_by Directive-F.Width = a_width
+step_by Directive-F.Name = a_leaf leaves.Name
+step_by Directive-F.Number = a_leaf leaves.Number
+step_by Directive-F.Width = a_leaf leaves.Width
 step_by (Directive-F.List member separator) = list_of (steps member.now) separator.now (trim separator.now)
 
 -- what a directive stands for
@@ -65,6 +69,11 @@ pub record Formats : Type 0 where
   pub operations : List Kind
   pub types : List Kind
   pub attributes : List Kind
+
+-- the kinds of types, or those of attributes
+abbrev pub kinds_of : Formats → ValueSort → List Kind
+kinds_of f sorts.«Type» = f.types
+kinds_of f sorts.Attribute = f.attributes
 
 -- there are few enough kinds of each
 abbrev pub is_small : Formats → Bool

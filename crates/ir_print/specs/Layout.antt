@@ -5,8 +5,9 @@ use Rattle.ir_names.specs.declared.kinds.Signedness.{Signedness}
 use Rattle.ir_names.specs.declared.kinds.Signedness.TheVariants.{Signless, Signed, Unsigned}
 use Rattle.ir_names.specs.Tree.{node, no_tree, a_tree}
 use Rattle.ir_print.specs.Formats as step
-use Rattle.ir_print.specs.Formats.{Formats, Kind, Step, Steps, no_steps}
-use Rattle.ir_print.specs.Pieces.{type_of_kind, attribute_of_kind, list, item, operands, successor, region, name, number, width, ValueTree, Pieces, EntityHead, operation, a_region, block, Entity, entity, Entities, no_entity, an_entity}
+use Rattle.ir_print.specs.Formats.{Formats, Kind, Step, Steps, no_steps, kinds_of}
+use Rattle.ir_print.specs.declared.format.ValueSort.TheVariants as sorts
+use Rattle.ir_print.specs.Pieces.{Leaf, name, number, width, value_of_kind, list, item, operands, successor, region, leaf, ValueTree, Pieces, EntityHead, operation, a_region, block, Entity, entity, Entities, no_entity, an_entity}
 
 -- A part of a text: white space, a token, or a word as it is printed, with white space around it, and as it is read.
 pub data Chunk : Type 0 where
@@ -94,10 +95,16 @@ abbrev pub number_text : Bool → ℕ → List ℕ
 number_text true magnitude = codes "-" ++ decimal magnitude
 number_text false magnitude = decimal magnitude
 
--- a name, with `@` before that of a symbol
-abbrev pub name_on : Step → List ℕ → List Chunk → List Chunk
-name_on step.symbol_name cs rest = token (codes "@") ∷ token cs ∷ rest
-name_on _ cs rest = token cs ∷ rest
+-- how a leaf is spelled
+abbrev pub leaf_text : Leaf → List ℕ
+leaf_text (name cs) = cs
+leaf_text (number negative magnitude) = number_text negative magnitude
+leaf_text (width sign bits) = width_text sign bits
+
+-- the token of a leaf, with `@` before the name of a symbol
+abbrev pub leaf_on : Step → List ℕ → List Chunk → List Chunk
+leaf_on step.symbol_name cs rest = token (codes "@") ∷ token cs ∷ rest
+leaf_on _ cs rest = token cs ∷ rest
 
 -- the word between two members of a list, as it is printed and as it is read
 abbrev pub separator_of : Step → Chunk
@@ -127,16 +134,13 @@ members_on s (p ∷ ps) rest = some_on p s (more_members_on s ps rest)
 abbrev mutual
   -- a type, an attribute, or a part of one
   pub piece_on : Formats → ValueTree → Printer
-  piece_on f (node (type_of_kind n) ts) s rest = kind_on (slice_get f.types n) (parts_on f ts) rest
-  piece_on f (node (attribute_of_kind n) ts) s rest = kind_on (slice_get f.attributes n) (parts_on f ts) rest
+  piece_on f (node (value_of_kind sort n) ts) s rest = kind_on (slice_get (kinds_of f sort) n) (parts_on f ts) rest
   piece_on f (node list ts) s rest = members_on s (parts_on f ts) rest
   piece_on f (node item ts) s rest = format_on a_word (member_of s) (parts_on f ts) rest
   piece_on f (node (operands n) ts) s rest = rest
   piece_on f (node (successor n) ts) s rest = rest
   piece_on f (node region ts) s rest = rest
-  piece_on f (node (name cs) ts) s rest = name_on s cs rest
-  piece_on f (node (number negative magnitude) ts) s rest = token (number_text negative magnitude) ∷ rest
-  piece_on f (node (width sign bits) ts) s rest = token (width_text sign bits) ∷ rest
+  piece_on f (node (leaf x) ts) s rest = leaf_on s (leaf_text x) rest
 
   -- the parts of one
   pub parts_on : Formats → Pieces → List (Option Printer)
@@ -145,7 +149,7 @@ abbrev mutual
 
 -- a type
 abbrev pub type_on : Formats → ValueTree → List Chunk → List Chunk
-type_on f t rest = piece_on f t step.a_type rest
+type_on f t rest = piece_on f t (step.a_value sorts.«Type») rest
 
 -- ---- operations, regions and blocks
 
@@ -258,8 +262,7 @@ Deeper (suc d) P = P d
 abbrev mutual
   -- at most so many types and attributes stand in one another
   pub IsFlat : ℕ → ValueTree → Type 0
-  IsFlat d (node (type_of_kind n) ts) = Deeper d (λ e. AreFlat e ts)
-  IsFlat d (node (attribute_of_kind n) ts) = Deeper d (λ e. AreFlat e ts)
+  IsFlat d (node (value_of_kind sort n) ts) = Deeper d (λ e. AreFlat e ts)
   IsFlat d (node _ ts) = AreFlat d ts
 
   pub AreFlat : ℕ → Pieces → Type 0

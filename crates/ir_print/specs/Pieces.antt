@@ -1,15 +1,24 @@
 -- What types, attributes and operations say, whatever their dialect.
 use Rattle.std.specs.Prelude.{ℕ, Bool, List, Option}
 use Rattle.ir_names.specs.declared.kinds.Signedness.{Signedness}
+use Rattle.ir_print.specs.declared.format.ValueSort.{ValueSort}
+use Rattle.ir_print.specs.declared.format.ValueSort.TheVariants as sorts
 use Rattle.ir_names.specs.Tree.{LabelledTree, Trees}
+
+-- What one token says.
+pub data Leaf : Type 0 where
+  -- a name, by its characters
+  name : List ℕ → Leaf
+  -- a number: whether it is negative, and its magnitude
+  number : Bool → ℕ → Leaf
+  -- the width of an integer: its sign, and its number of bits
+  width : Signedness → ℕ → Leaf
 
 -- A piece of what a type, an attribute or an operation says, one for each directive of its format that is no literal. Kinds are
 -- given by their numbers in the dialect.
 pub data Piece : Type 0 where
-  -- a type of a kind, with the pieces of the type below it
-  type_of_kind : ℕ → Piece
-  -- an attribute of a kind, with its pieces below it
-  attribute_of_kind : ℕ → Piece
+  -- a type or an attribute of a kind, with its pieces below it
+  value_of_kind : ValueSort → ℕ → Piece
   -- a list, with a member for each tree below it
   list : Piece
   -- a member of a list, with its pieces below it
@@ -20,12 +29,8 @@ pub data Piece : Type 0 where
   successor : ℕ → Piece
   -- a region
   region : Piece
-  -- a name, by its characters
-  name : List ℕ → Piece
-  -- a number: whether it is negative, and its magnitude
-  number : Bool → ℕ → Piece
-  -- the width of an integer: its sign, and its number of bits
-  width : Signedness → ℕ → Piece
+  -- what one token says
+  leaf : Leaf → Piece
 
 -- a type or an attribute
 abbrev pub ValueTree : Type 0
@@ -47,6 +52,16 @@ pub record Values : Type 0 where
   pub canonical : ℕ → Pieces → Pieces
   -- the types of the results of an operation
   pub result_types : ℕ → Pieces → List ValueTree
+
+-- the number of the first piece that a value of a kind is refused for
+abbrev pub refused_value : Values → ValueSort → ℕ → Pieces → Option ℕ
+refused_value v sorts.«Type» n ps = v.refused_type n ps
+refused_value v sorts.Attribute n ps = v.refused_attribute n ps
+
+-- the pieces of the value that is read from pieces: a type says those that it is read from
+abbrev pub canonical_value : Values → ValueSort → ℕ → Pieces → Pieces
+canonical_value v sorts.«Type» n ps = ps
+canonical_value v sorts.Attribute n ps = v.canonical n ps
 
 -- What an operation, a region or a block says of itself, where an N names a value, or a block.
 pub data EntityHead (N : Type 0) : Type 0 where

@@ -4,9 +4,12 @@ use Rattle.ir_base.specs.declared.types.TypeHandle.{TypeHandle}
 use Rattle.ir_names.specs.Text.{is_identifier}
 use Rattle.ir_names.specs.Tree.{LabelledTree, Trees, node, no_tree, a_tree}
 use Rattle.ir_print.specs.Formats as step
-use Rattle.ir_print.specs.Formats.{Formats, Kind, Step, Steps, no_steps}
-use Rattle.ir_print.specs.Pieces.{type_of_kind, attribute_of_kind, list, item, operands, successor, region, name, number, width, ValueTree, Pieces, Values}
-use Rattle.ir_print.specs.Shown.{Saying, ShowsAll, operands_said, Said, said_type, said_attribute, said_list, said_item, said_operands, said_successor, said_region, said_name, said_number, said_width}
+use Rattle.ir_print.specs.Formats.{Formats, Kind, Step, Steps, no_steps, kinds_of}
+use Rattle.ir_print.specs.declared.format.ValueSort.TheVariants as sorts
+use Rattle.ir_print.specs.declared.format.LeafSort.{LeafSort}
+use Rattle.ir_print.specs.declared.format.LeafSort.TheVariants as leaves
+use Rattle.ir_print.specs.Pieces.{Leaf, name, number, width, value_of_kind, list, item, operands, successor, region, leaf, refused_value, canonical_value, ValueTree, Pieces, Values}
+use Rattle.ir_print.specs.Shown.{Saying, ShowsAll, operands_said, Said, said_type, said_attribute, said_list, said_item, said_operands, said_successor, said_region, said_leaf}
 
 -- the steps of a format that are no words
 abbrev pub parts_in : Steps → List Step
@@ -19,11 +22,23 @@ abbrev pub IsListOf : Step → (List Step → Type 0) → Type 0
 IsListOf (step.list_of member printed text) P = P (parts_in member)
 IsListOf _ P = ⊥
 
--- a name or the name of a symbol
-abbrev pub TakesName : Step → Type 0
-TakesName step.a_name = Unit {0}
-TakesName step.symbol_name = Unit {0}
-TakesName _ = ⊥
+-- the sort of a leaf
+abbrev pub sort_of : Leaf → LeafSort
+sort_of (name cs) = leaves.Name
+sort_of (number negative magnitude) = leaves.Number
+sort_of (width sign bits) = leaves.Width
+
+-- A step takes leaves of one sort; that of the name of a symbol takes names.
+abbrev pub TakesLeaf : Step → LeafSort → Type 0
+TakesLeaf (step.a_leaf sort) s = sort ≡ s
+TakesLeaf step.symbol_name s = leaves.Name ≡ s
+TakesLeaf _ s = ⊥
+
+-- A leaf can be read: a name is one, a number has at most 64 bits, and a width at most 32.
+abbrev pub IsInRange : Leaf → Type 0
+IsInRange (name cs) = is_identifier cs ≡ true
+IsInRange (number negative magnitude) = magnitude < 2 ^ 64
+IsInRange (width sign bits) = bits < 2 ^ 32
 
 -- A list of operands takes any number of them, and the step of one operand takes one.
 abbrev pub TakesOperands : Step → ℕ → Type 0
@@ -37,16 +52,14 @@ module _ {A : Type 0} where
   -- What is said has its place at a step of a format, and steps have one each. What a type or an attribute says in turn isn't looked at.
   abbrev mutual
     pub IsSaidAt : Step → LabelledTree (Said A) → Type 0
-    IsSaidAt s (node (said_type ty) us) = s ≡ step.a_type
-    IsSaidAt s (node (said_attribute a) us) = s ≡ step.an_attribute
+    IsSaidAt s (node (said_type ty) us) = s ≡ step.a_value sorts.«Type»
+    IsSaidAt s (node (said_attribute a) us) = s ≡ step.a_value sorts.Attribute
     IsSaidAt s (node said_list us) = IsListOf s (λ ss. AreMembersSaidAt ss us)
     IsSaidAt s (node said_item us) = ⊥
     IsSaidAt s (node (said_operands n) us) = TakesOperands s n
     IsSaidAt s (node (said_successor n) us) = s ≡ step.successor
     IsSaidAt s (node said_region us) = s ≡ step.a_region
-    IsSaidAt s (node (said_name cs) us) = TakesName s × (is_identifier cs ≡ true)
-    IsSaidAt s (node (said_number negative magnitude) us) = (s ≡ step.a_number) × (magnitude < 2 ^ 64)
-    IsSaidAt s (node (said_width sign bits) us) = (s ≡ step.a_width) × (bits < 2 ^ 32)
+    IsSaidAt s (node (said_leaf x) us) = TakesLeaf s (sort_of x) × IsInRange x
 
     pub AreSaidAt : List Step → Trees (Said A) → Type 0
     AreSaidAt [] no_tree = Unit {0}
@@ -64,21 +77,18 @@ module _ {A : Type 0} where
 -- ---- what is printed
 
 module _ (f : Formats) (v : Values) where
-  -- A piece has its place at a step of a format, and steps have one each. No type and no attribute is refused, and an attribute is
-  -- printed with its own pieces.
+  -- A piece has its place at a step of a format, and steps have one each. No type and no attribute is refused, and each is printed
+  -- with its own pieces.
   abbrev mutual
     pub Fits : Step → ValueTree → Type 0
-    Fits s (node (type_of_kind n) ts) = (s ≡ step.a_type) × (k : Kind) × (slice_get f.types n ≡ Some k) × FitAll (parts_in k.format) ts × (v.refused_type n ts ≡ None)
-    Fits s (node (attribute_of_kind n) ts) = (s ≡ step.an_attribute) × (k : Kind) × (slice_get f.attributes n ≡ Some k) × FitAll (parts_in k.format) ts
-        × (v.refused_attribute n ts ≡ None) × (v.canonical n ts ≡ ts)
+    Fits s (node (value_of_kind sort n) ts) = (s ≡ step.a_value sort) × (k : Kind) × (slice_get (kinds_of f sort) n ≡ Some k) × FitAll (parts_in k.format) ts
+        × (refused_value v sort n ts ≡ None) × (canonical_value v sort n ts ≡ ts)
     Fits s (node list ts) = IsListOf s (λ ss. FitMembers ss ts)
     Fits s (node item ts) = ⊥
     Fits s (node (operands n) ts) = TakesOperands s n
     Fits s (node (successor n) ts) = s ≡ step.successor
     Fits s (node region ts) = s ≡ step.a_region
-    Fits s (node (name cs) ts) = TakesName s × (is_identifier cs ≡ true)
-    Fits s (node (number negative magnitude) ts) = (s ≡ step.a_number) × (magnitude < 2 ^ 64)
-    Fits s (node (width sign bits) ts) = (s ≡ step.a_width) × (bits < 2 ^ 32)
+    Fits s (node (leaf x) ts) = TakesLeaf s (sort_of x) × IsInRange x
 
     pub FitAll : List Step → Pieces → Type 0
     FitAll [] no_tree = Unit {0}
@@ -96,7 +106,7 @@ module _ (f : Formats) (v : Values) where
   -- each argument has a type
   abbrev pub FitArguments : {N : Type 0} → List (N × ValueTree) → Type 0
   FitArguments [] = Unit {0}
-  FitArguments (x ∷ xs) = Fits step.a_type x.1 × FitArguments xs
+  FitArguments (x ∷ xs) = Fits (step.a_value sorts.«Type») x.1 × FitArguments xs
 
 -- ---- dialects
 

@@ -9,7 +9,10 @@ use Rattle.ir_names.specs.Tree.{LabelledTree, Trees, node, no_tree, a_tree}
 use Rattle.ir_print.specs.declared.format.Number.{Number}
 use Rattle.ir_print.specs.declared.format.Part.{Part}
 use Rattle.ir_print.specs.declared.format.Part.TheVariants as part
-use Rattle.ir_print.specs.Pieces.{type_of_kind, attribute_of_kind, list, item, operands, successor, region, name, number, width, ValueTree, Pieces, Values}
+use Rattle.ir_print.specs.declared.format.ValueSort.TheVariants as sorts
+use Rattle.ir_print.specs.declared.format.LeafValue.{LeafValue}
+use Rattle.ir_print.specs.declared.format.LeafValue.TheVariants as read
+use Rattle.ir_print.specs.Pieces.{Leaf, name, number, width, value_of_kind, list, item, operands, successor, region, leaf, ValueTree, Pieces, Values}
 
 -- A piece of what something in a context says. Types are given by their handles.
 pub data Said (A : Type 0) : Type 0 where
@@ -21,13 +24,11 @@ pub data Said (A : Type 0) : Type 0 where
   -- an edge, which hands on so many operands
   said_successor : ℕ → Said A
   said_region : Said A
-  said_name : List ℕ → Said A
-  said_number : Bool → ℕ → Said A
-  said_width : Signedness → ℕ → Said A
+  said_leaf : Leaf → Said A
 
 -- a piece with nothing below it
-abbrev pub leaf : {A : Type 0} → Said A → LabelledTree (Said A)
-leaf x = node x no_tree
+abbrev pub alone : {A : Type 0} → Said A → LabelledTree (Said A)
+alone x = node x no_tree
 
 -- What a dialect's types, attributes and operations say: the number of the kind, and the pieces. Those that no text has say none.
 pub record Saying (K A T : Type 0) : Type 0 where
@@ -46,6 +47,13 @@ abbrev pub IsWidth : Option ℕ → ℕ → Type 0
 IsWidth (Some w) bits = w ≡ bits
 IsWidth None bits = 2 ^ 32 ≤ bits
 
+-- what is read of a leaf is this
+abbrev pub IsLeaf : LeafValue → Leaf → Type 0
+IsLeaf (read.Name id) (name cs) = text_of id ≡ cs
+IsLeaf (read.Number o) (number negative magnitude) = IsNumber o negative magnitude
+IsLeaf (read.Width s o) (width sign bits) = (s ≡ sign) × IsWidth o bits
+IsLeaf _ _ = ⊥
+
 -- each of the first with the one of the second beside it, and neither has more
 abbrev pub Pairs : {X Y : Type 0} → (X → Y → Type 0) → List X → List Y → Type 0
 Pairs R [] [] = Unit {0}
@@ -55,19 +63,17 @@ Pairs R _ _ = ⊥
 -- What is said is this piece, and these pieces one each. A type is what the key under its handle says.
 abbrev mutual
   pub Shows : {K A T : Type 0} → Saying K A T → List T → LabelledTree (Said A) → ValueTree → Type 0
-  Shows {A = A} {T = T} says types x (node (type_of_kind n) ts) =
+  Shows {A = A} {T = T} says types x (node (value_of_kind sorts.«Type» n) ts) =
       (ty : TypeHandle) × (key : T) × (us : Trees (Said A))
-      × (x ≡ leaf (said_type ty)) × (slice_get types ty.number ≡ Some key) × (says.of_type key ≡ Some (n, us)) × ShowsAll says types us ts
-  Shows {A = A} says types x (node (attribute_of_kind n) ts) =
-      (attr : A) × (us : Trees (Said A)) × (x ≡ leaf (said_attribute attr)) × (says.of_attribute attr ≡ Some (n, us)) × ShowsAll says types us ts
+      × (x ≡ alone (said_type ty)) × (slice_get types ty.number ≡ Some key) × (says.of_type key ≡ Some (n, us)) × ShowsAll says types us ts
+  Shows {A = A} says types x (node (value_of_kind sorts.Attribute n) ts) =
+      (attr : A) × (us : Trees (Said A)) × (x ≡ alone (said_attribute attr)) × (says.of_attribute attr ≡ Some (n, us)) × ShowsAll says types us ts
   Shows {A = A} says types x (node list ts) = (us : Trees (Said A)) × (x ≡ node said_list us) × ShowsAll says types us ts
   Shows {A = A} says types x (node item ts) = (us : Trees (Said A)) × (x ≡ node said_item us) × ShowsAll says types us ts
-  Shows says types x (node (operands n) ts) = x ≡ leaf (said_operands n)
-  Shows says types x (node (successor n) ts) = x ≡ leaf (said_successor n)
-  Shows says types x (node region ts) = x ≡ leaf said_region
-  Shows says types x (node (name cs) ts) = x ≡ leaf (said_name cs)
-  Shows says types x (node (number negative magnitude) ts) = x ≡ leaf (said_number negative magnitude)
-  Shows says types x (node (width sign bits) ts) = x ≡ leaf (said_width sign bits)
+  Shows says types x (node (operands n) ts) = x ≡ alone (said_operands n)
+  Shows says types x (node (successor n) ts) = x ≡ alone (said_successor n)
+  Shows says types x (node region ts) = x ≡ alone said_region
+  Shows says types x (node (leaf l) ts) = x ≡ alone (said_leaf l)
 
   pub ShowsAll : {K A T : Type 0} → Saying K A T → List T → Trees (Said A) → Pieces → Type 0
   ShowsAll says types no_tree no_tree = Unit {0}
@@ -77,11 +83,11 @@ abbrev mutual
 module _ {K A T : Type 0} (says : Saying K A T) (types : List T) where
   -- the type under a handle is this one
   abbrev pub ShowsType : TypeHandle → ValueTree → Type 0
-  ShowsType ty t = Shows says types (leaf (said_type ty)) t
+  ShowsType ty t = Shows says types (alone (said_type ty)) t
 
   -- the attribute is this one
   abbrev pub ShowsAttribute : A → ValueTree → Type 0
-  ShowsAttribute attr t = Shows says types (leaf (said_attribute attr)) t
+  ShowsAttribute attr t = Shows says types (alone (said_attribute attr)) t
 
   -- the key of a type of the kind with this number says these pieces
   abbrev pub ShowsKey : T → ℕ → Pieces → Type 0
@@ -90,17 +96,15 @@ module _ {K A T : Type 0} (says : Saying K A T) (types : List T) where
 -- A part that was read is this piece. Parts are these pieces, one each, and so are the members of a list.
 abbrev mutual
   pub ShowsPart : {D K A T : Type 0} → Saying K A T → List T → Part D K A T → ValueTree → Type 0
-  ShowsPart says types p (node (type_of_kind n) ts) = (ty : TypeHandle) × (p ≡ part.Type ty) × ShowsType says types ty (node (type_of_kind n) ts)
-  ShowsPart {A = A} says types p (node (attribute_of_kind n) ts) = (attr : A) × (p ≡ part.Attribute attr) × ShowsAttribute says types attr (node (attribute_of_kind n) ts)
+  ShowsPart says types p (node (value_of_kind sorts.«Type» n) ts) = (ty : TypeHandle) × (p ≡ part.Type ty) × ShowsType says types ty (node (value_of_kind sorts.«Type» n) ts)
+  ShowsPart {A = A} says types p (node (value_of_kind sorts.Attribute n) ts) = (attr : A) × (p ≡ part.Attribute attr) × ShowsAttribute says types attr (node (value_of_kind sorts.Attribute n) ts)
   ShowsPart {D = D} {K = K} {A = A} {T = T} says types p (node list ts) =
       (ms : Vec (Vec (Part D K A T) Global) Global) × (p ≡ part.List ms) × ShowsMembers says types ms.items ts
   ShowsPart says types p (node item ts) = ⊥
   ShowsPart says types p (node (operands n) ts) = p ≡ part.Operands n
   ShowsPart says types p (node (successor n) ts) = p ≡ part.Successor n
   ShowsPart says types p (node region ts) = p ≡ part.Region
-  ShowsPart says types p (node (name cs) ts) = (id : Identifier) × (p ≡ part.Name id) × (text_of id ≡ cs)
-  ShowsPart says types p (node (number negative magnitude) ts) = (o : Option Number) × (p ≡ part.Number o) × IsNumber o negative magnitude
-  ShowsPart says types p (node (width sign bits) ts) = (o : Option ℕ) × (p ≡ part.Width sign o) × IsWidth o bits
+  ShowsPart says types p (node (leaf x) ts) = (l : LeafValue) × (p ≡ part.Leaf l) × IsLeaf l x
 
   pub ShowsParts : {D K A T : Type 0} → Saying K A T → List T → List (Part D K A T) → Pieces → Type 0
   ShowsParts says types [] no_tree = Unit {0}

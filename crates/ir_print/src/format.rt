@@ -2,6 +2,21 @@
 
 use ir_names::{Dialects, Identifier, Signedness, TypeHandle};
 
+/// What a value is.
+#[derive(Clone, Copy, PartialEq, Eq)]
+pub enum ValueSort {
+    Type,
+    Attribute,
+}
+
+/// What a leaf is: a part of a value that is one token.
+#[derive(Clone, Copy, PartialEq, Eq)]
+pub enum LeafSort {
+    Name,
+    Number,
+    Width,
+}
+
 /// One step of a format.
 #[derive(Clone, Copy)]
 pub enum Directive {
@@ -38,6 +53,16 @@ pub struct Number {
     pub magnitude: u64,
 }
 
+/// What a leaf says.
+#[derive(Drop)]
+pub enum LeafValue {
+    Name(Identifier),
+    /// None stands for a number past 64 bits.
+    Number(Option<Number>),
+    /// None stands for a width past 32 bits.
+    Width(Signedness, Option<u32>),
+}
+
 /// A part of a value, one for each directive of its format that is no literal.
 ///
 /// Operands, edges and regions stay with the operation, in the order of the text: a part gives the number of operands.
@@ -50,10 +75,6 @@ pub enum Part<D: Dialects> {
     Attribute(D::Attr),
     Type(TypeHandle),
     Region,
-    Name(Identifier),
-    /// None stands for a number past 64 bits.
-    Number(Option<Number>),
-    /// None stands for a width past 32 bits.
-    Width(Signedness, Option<u32>),
+    Leaf(LeafValue),
     List(Vec<Vec<Part<D>>>),
 }

@@ -6,4 +6,4 @@
 
 mod format;
 
-pub use format::{Directive, Number, Part};
+pub use format::{Directive, LeafSort, LeafValue, Number, Part, ValueSort};

@@ -22,7 +22,7 @@ module _ (l : Language) (can : CanPrint l) (tree : Entity ℕ) (text : List ℕ)
   ν n = value_name (of.number n)
 
   there : IsClosedTree l of.printed
-  there = closed_renamed ν of.label l tree of.printed closed of.named of.labelled (printed_bare ν of.label of.printed tree of.named closed.bare)
+  there = closed_renamed ν of.label l tree of.printed closed of.named (printed_bare ν of.label of.printed tree of.named closed.bare)
 
   spelt : IsSpelt of.printed
   spelt = printed_spelt of.number of.small of.label of.printed tree of.named of.blocks there.edges

@@ -39,7 +39,7 @@ use Rattle.ir_rereading.proofs.layouts.LayoutOperations.{IsPlainTree}
 use Rattle.ir_rereading.proofs.layouts.LayoutPlain.{plain_tree, printed_bare}
 use Rattle.ir_rereading.proofs.layouts.LayoutTokens.{layout_tokens}
 use Rattle.ir_rereading.proofs.layouts.LayoutTrees.{layout_tree}
-use Rattle.ir_rereading.proofs.layouts.Marks.{Mark, characters, tokens, events, marks, IsSpelt, sort_of, kind_by}
+use Rattle.ir_rereading.proofs.layouts.Marks.{Mark, characters, tokens, events, marks, IsSpelt, kind_of_text, kind_by}
 use Rattle.ir_formats.proofs.Ordered.{text_ends}
 use Rattle.ir_rereading.proofs.layouts.PlainWords.{words_plain}
 use Rattle.ir_formats.proofs.Spelled.{alike_by}
@@ -59,15 +59,15 @@ use Rattle.ir_rereading.proofs.TreeTexts.{value_spelled, label_spelled, label_me
 
 -- ---- kinds of tokens
 
-kinds_by : (ws : List (List ℕ)) (cs : List ℕ) (ts : List Token) (xs : List (List ℕ)) → map (text_of cs) ts ≡ xs → map (λ (t : Token). t.kind) ts ≡ map sort_of xs → map (kind_of ws cs) ts ≡ map (kind_by ws) xs
+kinds_by : (ws : List (List ℕ)) (cs : List ℕ) (ts : List Token) (xs : List (List ℕ)) → map (text_of cs) ts ≡ xs → map (λ (t : Token). t.kind) ts ≡ map kind_of_text xs → map (kind_of ws cs) ts ≡ map (kind_by ws) xs
 kinds_by ws cs [] [] e k = refl
 kinds_by ws cs [] (x ∷ xs) e k = absurd (cc)
 kinds_by ws cs (t ∷ ts) [] e k = absurd (cc)
 kinds_by ws cs (t ∷ ts) (x ∷ xs) e k =
     let text : text_of cs t ≡ x = cc in
-    let sort : t.kind ≡ sort_of x = cc in
+    let sort : t.kind ≡ kind_of_text x = cc in
     let texts : map (text_of cs) ts ≡ xs = cc in
-    let sorts : map (λ (u : Token). u.kind) ts ≡ map sort_of xs = cc in
+    let sorts : map (λ (u : Token). u.kind) ts ≡ map kind_of_text xs = cc in
     let first : kind_of ws cs t ≡ kind_by ws x = rw (text, sort) refl in
     let rest = kinds_by ws cs ts xs texts sorts in cc
 
@@ -126,12 +126,12 @@ module _ (l : Language) (lead : ordered.PartPositions) (ok : is_ordered lead (ru
   es = events ms
 
   there : IsClosedTree l p
-  there = closed_renamed ν μ l t p closed same labels_differ (printed_bare ν μ p t same closed.bare)
+  there = closed_renamed ν μ l t p closed same (printed_bare ν μ p t same closed.bare)
 
   plain_there : IsPlainTree p
   plain_there = plain_tree l.formats l.values p outer there.fits there.bare
 
-  lexed : (ts : List Token) × ReadsAs cs 0 ts × (map (text_of cs) ts ≡ tokens ms) × (map (λ (x : Token). x.kind) ts ≡ map sort_of (tokens ms))
+  lexed : (ts : List Token) × ReadsAs cs 0 ts × (map (text_of cs) ts ≡ tokens ms) × (map (λ (x : Token). x.kind) ts ≡ map kind_of_text (tokens ms))
   lexed = layout_tokens l.formats l.values p printable there.fits spelt
 
   abbrev ts : List Token

@@ -1,9 +1,9 @@
 -- The tree of a text is closed.
-use Rattle.std.proofs.Common.{◌≡◌, ℕ, true, List, [], slice_index, sym, subst, inl, inr}
+use Rattle.std.proofs.Common.{◌≡◌, ℕ, true, List, [], slice_index, sym, subst}
 use Rattle.ir_print.specs.Layout.{AreFlat, IsShallow}
 use Rattle.ir_print.specs.Pieces.{Pieces, Entity}
 use Rattle.ir_forest.specs.Bare.{IsBareTree, KeepsBare}
-use Rattle.ir_forest.specs.Closed.{IsOperation, IsScopedRoot, HasEdges, IsNumbered, IsLabelled}
+use Rattle.ir_forest.specs.Closed.{IsOperation, IsScopedRoot, HasEdges, IsNumbered}
 use Rattle.ir_formats.specs.Ordered as ordered
 use Rattle.ir_formats.specs.Ordered.{is_ordered}
 use Rattle.ir_formats.specs.Rules.{rules_of}
@@ -13,9 +13,7 @@ use Rattle.ir_forest.specs.Language.{Language}
 use Rattle.ir_rereading.proofs.layouts.LayoutPlain.{read_bare, bare_renamed}
 use Rattle.ir_rereading.proofs.ReadDepths.{says_shallow}
 use Rattle.ir_rereading.proofs.ReadTrees.{says_operation}
-use Rattle.ir_rereading.proofs.verdicts.TextReadings.{read_in_order}
-use Rattle.ir_rereading.proofs.trees.TreeLabels.{tree_labelled, renamed_labelled}
-use Rattle.ir_rereading.proofs.TreeTexts.{text_scoped, label_spelled, numbered_alike}
+use Rattle.ir_rereading.proofs.TreeTexts.{text_scoped}
 
 module _ (l : Language) (lead : ordered.PartPositions) (ok : is_ordered lead (rules_of l.formats) ≡ true) (flat : (n d : ℕ) (ps : Pieces) → AreFlat d ps → AreFlat d (l.values.canonical n ps)) (keeps : KeepsBare l.values)
     (cs : List ℕ) (tree : Entity ℕ) (says : Says l cs tree) where
@@ -26,7 +24,6 @@ module _ (l : Language) (lead : ordered.PartPositions) (ok : is_ordered lead (ru
     pub scoped : IsScopedRoot l.isolated tree
     pub edges : HasEdges [] tree
     pub numbered : IsNumbered tree
-    pub labelled : IsLabelled tree
     pub bare : IsBareTree tree
 
   pub read_closed : IsReadTree
@@ -46,15 +43,11 @@ module _ (l : Language) (lead : ordered.PartPositions) (ok : is_ordered lead (ru
       let resolved = says.12 in
       let same = says.13 in
       let scopes = text_scoped l cs ts names stop n es reading lead ok reading.numbered none forest t r is built resolved in
-      let labels = tree_labelled l.isolated l.values (token_text cs ts) names es forest t (read_in_order l lead ok cs ts names n es stop reading).nests is built
-      (λ i j s u at there e. numbered_alike l cs ts names stop n es reading s.token u.token (label_spelled l cs ts names stop n es reading s (i, at)) (label_spelled l cs ts names stop n es reading u (j, there)) e)
-      (λ f again. none f (inr (inr (inr (inr (inr (inl again))))))) in
       record {
         operation = says_operation l lead ok cs tree says;
         shallow = says_shallow l flat cs tree says;
         scoped = subst (λ u. IsScopedRoot l.isolated u) (sym same) scopes.0;
         edges = subst (λ (u : Entity ℕ). HasEdges [] u) (sym same) scopes.1;
         numbered = subst IsNumbered (sym same) scopes.2;
-        labelled = subst (λ (u : Entity ℕ). IsLabelled u) (sym same) (renamed_labelled (slice_index r.definitions) (slice_index r.definitions) t labels);
         bare = subst (λ (u : Entity ℕ). IsBareTree u) (sym same) (bare_renamed (slice_index r.definitions) (slice_index r.definitions) t (read_bare l.values (token_text cs ts) keeps forest t built));
       }

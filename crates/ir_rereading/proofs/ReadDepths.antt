@@ -3,8 +3,8 @@ use Rattle.std.proofs.Common.{◌≡◌, ℕ, zero, suc, ◌+◌, ◌-◌, ◌<�
 use Rattle.std.proofs.lemmas.Bool.{cases_lt}
 use Rattle.std.proofs.lemmas.List.{append_assoc, append-nil}
 use Rattle.ir_names.specs.Tree.{Trees, node, no_tree, a_tree}
-use Rattle.ir_print.specs.Layout.{Deeper, IsFlat, AreFlat, AreFlatArguments, IsShallow, AreShallow}
-use Rattle.ir_print.specs.Pieces.{ValueTree, Pieces, Values, operation, a_region, block, Entity, entity, Entities, no_entity, an_entity}
+use Rattle.ir_print.specs.Layout.{Deeper, AreFlat, AreFlatArguments, IsShallow, AreShallow}
+use Rattle.ir_print.specs.Pieces.{ValueTree, Pieces, Values, canonical_value, operation, a_region, block, Entity, entity, Entities, no_entity, an_entity}
 use Rattle.ir_grammar.specs.declared.grammar.Action.{Action}
 use Rattle.ir_grammar.specs.declared.grammar.Action.TheVariants as act
 use Rattle.ir_grammar.specs.declared.grammar.Event.{Event}
@@ -21,7 +21,9 @@ use Rattle.ir_formats.specs.Rules.{rules_of}
 use Rattle.ir_rereading.specs.Texts.{Says}
 use Rattle.ir_formats.specs.Words.{token_text}
 use Rattle.ir_forest.specs.Language.{Language}
-use Rattle.ir_rereading.proofs.ReadTrees.{number_so, width_so, step_of, says_operation}
+use Rattle.ir_print.specs.declared.format.ValueSort.{ValueSort}
+use Rattle.ir_print.specs.declared.format.ValueSort.TheVariants as sorts
+use Rattle.ir_rereading.proofs.ReadTrees.{step_of, says_operation}
 
 -- ---- what is open where parts begin
 
@@ -49,8 +51,7 @@ ends_even : (a x : Action) (d : ℕ) → end_of a ≡ Some x → depth_at (depth
 ends_even (act.Operation kind) act.EndOperation d e = refl
 ends_even act.BeginRegion act.EndRegion d e = omega arith
 ends_even act.Label act.EndBlock d e = refl
-ends_even (act.BeginType kind) act.EndType d e = omega arith
-ends_even (act.BeginAttribute kind) act.EndAttribute d e = omega arith
+ends_even (act.Begin sort kind) (act.End other) d e = omega arith
 ends_even act.BeginOperands act.EndOperands d e = refl
 ends_even act.BeginSuccessor act.EndSuccessor d e = refl
 ends_even act.BeginList act.EndList d e = refl
@@ -62,9 +63,7 @@ alone_even : (a : Action) (d : ℕ) → end_of a ≡ None → is_end a ≡ false
 alone_even act.Result d e f = refl
 alone_even act.Argument d e f = refl
 alone_even act.Header d e f = refl
-alone_even act.Name d e f = refl
-alone_even act.Number d e f = refl
-alone_even act.Width d e f = refl
+alone_even (act.Leaf sort) d e f = refl
 alone_even act.Operand d e f = refl
 alone_even _ d e f = cc
 
@@ -107,19 +106,20 @@ module _ (v : Values) (text : ℕ → List ℕ) (flat : (n d : ℕ) (ps : Pieces
   abbrev Flat : Trees ActionSpan → Type 0
   Flat ts = (d e : ℕ) → d + e ≡ 64 → IsLow d ts → AreFlat e (pieces_in v text ts)
 
+  canonical_flat : (sort : ValueSort) (n d : ℕ) (ps : Pieces) → AreFlat d ps → AreFlat d (canonical_value v sort n ps)
+  canonical_flat sorts.«Type» n d ps h = h
+  canonical_flat sorts.Attribute n d ps h = flat n d ps h
+
   piece_flat : (a : Action) (f l : ℕ) (ts rest : Trees ActionSpan) → Flat ts → (d e : ℕ) → d + e ≡ 64 → (opens a ≡ true → d < 64) → IsLow (depth_at d a) ts → AreFlat e (pieces_in v text rest)
       → AreFlat e (pieces_in v text (a_tree (node (step_of a f l) ts) rest))
-  piece_flat (act.BeginType kind) f l ts rest inner d e s lt low more = (more_deep (λ e. AreFlat e (pieces_in v text ts)) d e s (lt refl) (λ e s. inner (d + 1) e s low), more)
-  piece_flat (act.BeginAttribute kind) f l ts rest inner d e s lt low more =
-      (more_deep (λ e. AreFlat e (v.canonical kind (pieces_in v text ts))) d e s (lt refl) (λ e s. flat kind e (pieces_in v text ts) (inner (d + 1) e s low)), more)
+  piece_flat (act.Begin sort kind) f l ts rest inner d e s lt low more =
+      (more_deep (λ e. AreFlat e (canonical_value v sort kind (pieces_in v text ts))) d e s (lt refl) (λ e s. canonical_flat sort kind e (pieces_in v text ts) (inner (d + 1) e s low)), more)
   piece_flat act.BeginList f l ts rest inner d e s lt low more = (inner d e s low, more)
   piece_flat act.BeginItem f l ts rest inner d e s lt low more = (inner d e s low, more)
   piece_flat act.BeginOperands f l ts rest inner d e s lt low more = (tt, more)
   piece_flat act.BeginSuccessor f l ts rest inner d e s lt low more = (tt, more)
   piece_flat act.BeginRegion f l ts rest inner d e s lt low more = (tt, more)
-  piece_flat act.Name f l ts rest inner d e s lt low more = (tt, more)
-  piece_flat act.Number f l ts rest inner d e s lt low more = (number_so (λ z. IsFlat e (node z no_tree)) (λ negative magnitude. tt) (text f), more)
-  piece_flat act.Width f l ts rest inner d e s lt low more = (width_so (λ z. IsFlat e (node z no_tree)) (λ bits. tt) (λ bits. tt) (λ bits. tt) (text f), more)
+  piece_flat (act.Leaf sort) f l ts rest inner d e s lt low more = (tt, more)
   piece_flat _ f l ts rest inner d e s lt low more = more
 
   pieces_flat : (ts : Trees ActionSpan) → Flat ts
@@ -133,7 +133,7 @@ module _ (v : Values) (text : ℕ → List ℕ) (flat : (n d : ℕ) (ps : Pieces
   argument_flat : (a : Action) (f l : ℕ) (ts rest : Trees ActionSpan) (named d e : ℕ) → d + e ≡ 64 → (opens a ≡ true → d < 64) → IsLow (depth_at d a) ts → IsLow d rest → FlatArguments rest
       → AreFlatArguments e (arguments_in v text named (a_tree (node (step_of a f l) ts) rest))
   argument_flat act.Argument f l ts rest named d e s lt low others more = more f d e s others
-  argument_flat (act.BeginType kind) f l ts rest named d e s lt low others more =
+  argument_flat (act.Begin sorts.«Type» kind) f l ts rest named d e s lt low others more =
       (more_deep (λ e. AreFlat e (pieces_in v text ts)) d e s (lt refl) (λ e s. pieces_flat ts (d + 1) e s low), more named d e s others)
   argument_flat act.Header f l ts rest named d e s lt low others more = tt
   argument_flat _ f l ts rest named d e s lt low others more = more named d e s others

@@ -1,10 +1,9 @@
 -- What a text says is an operation: it has results of the types that its pieces give, and the regions and edges that they say, and so
 -- have those in it.
-use Rattle.std.proofs.Common.{◌≡◌, ℕ, suc, ◌==◌, Bool, true, false, if◌then◌else◌, List, [], ◌∷◌, ◌++◌, map, length, None, refl, sym, subst, ap, ◌∙◌, arith, inl, inr}
+use Rattle.std.proofs.Common.{◌≡◌, ℕ, suc, true, List, [], ◌∷◌, ◌++◌, map, length, None, refl, sym, subst, ap, ◌∙◌, arith, inl, inr}
 use Rattle.std.proofs.lemmas.List.{length-map}
 use Rattle.ir_names.specs.Tree.{Trees, node, no_tree, a_tree}
-use Rattle.ir_names.specs.declared.kinds.Signedness.TheVariants.{Signless, Signed, Unsigned}
-use Rattle.ir_print.specs.Pieces.{Piece, number, width, ValueTree, Values, operation, a_region, block, Entity, entity, Entities, no_entity, an_entity}
+use Rattle.ir_print.specs.Pieces.{ValueTree, Values, operation, a_region, block, Entity, entity, Entities, no_entity, an_entity}
 use Rattle.ir_print.specs.Shown.{successors_said}
 use Rattle.ir_grammar.specs.declared.grammar.Action.{Action}
 use Rattle.ir_grammar.specs.declared.grammar.Action.TheVariants as act
@@ -15,8 +14,8 @@ use Rattle.ir_forest.specs.Building.{with_name}
 use Rattle.ir_forest.specs.Closed.{regions_said, number_in as entities_in, IsOperation, AreRegions, IsRegion, AreBlocks, IsBlock, AreOperations}
 use Rattle.ir_tokens.specs.Faults.{IsNamed}
 use Rattle.ir_forest.specs.Forest.{ActionSpan, IsForestOf}
-use Rattle.ir_forest.specs.Meaning.{digits, tail, number_in, width_in, pieces_in, typed, successors_in, operations_in, regions_in, blocks_in, renamed, all_renamed}
-use Rattle.ir_grammar.specs.Nesting.{Position, at_root, behind_root_results, at_end, in_operation, in_operands, in_successor, in_region, in_header, in_argument, in_block, behind_results, in_type, in_attribute, in_list, in_item, move}
+use Rattle.ir_forest.specs.Meaning.{pieces_in, typed, successors_in, operations_in, regions_in, blocks_in, renamed, all_renamed}
+use Rattle.ir_grammar.specs.Nesting.{Position, at_root, behind_root_results, at_end, in_operation, in_operands, in_successor, in_region, in_header, in_argument, in_block, behind_results, in_value, in_list, in_item, move}
 use Rattle.ir_formats.specs.Ordered.{is_ordered}
 use Rattle.ir_formats.specs.Ordered as ordered
 use Rattle.ir_formats.specs.Rules.{rules_of}
@@ -25,6 +24,7 @@ use Rattle.ir_formats.specs.Words.{token_text}
 use Rattle.ir_forest.specs.Language.{Language}
 use Rattle.ir_rereading.proofs.verdicts.TextReadings.{read_whole}
 use Rattle.ir_rereading.proofs.trees.TreeCounts.{CountsAt, Counts, forest_counts}
+use Rattle.ir_print.specs.declared.format.ValueSort.TheVariants as sorts
 use Rattle.ir_rereading.proofs.trees.TreePlaces.{PlacedBy, Placed, forest_placed}
 
 -- ---- names beside types
@@ -40,27 +40,6 @@ types_renamed : {M N : Type 0} (f : M → N) (xs : List (M × ValueTree)) → ma
 types_renamed f [] = refl
 types_renamed f (x ∷ xs) = ap (λ z. x.1 ∷ z) (types_renamed f xs)
 
--- ---- numbers and widths
-
--- what is so of numbers is so of that which a token writes
-pub number_so : (P : Piece → Type 0) → ((negative : Bool) (magnitude : ℕ) → P (number negative magnitude)) → (cs : List ℕ) → P (number_in cs)
-number_so P h [] = h false 0
-number_so P h (c ∷ cs) = go (c == 45)
-  where
-    go : (b : Bool) → P (if b then number true (digits cs) else number false (digits (c ∷ cs)))
-    go true = h true (digits cs)
-    go false = h false (digits (c ∷ cs))
-
--- the same of widths
-pub width_so : (P : Piece → Type 0) → ((bits : ℕ) → P (width Signless bits)) → ((bits : ℕ) → P (width Signed bits)) → ((bits : ℕ) → P (width Unsigned bits)) → (cs : List ℕ) → P (width_in cs)
-width_so P h i u [] = h 0
-width_so P h i u (c ∷ cs) = go (c == 115) (c == 117)
-  where
-    go : (b d : Bool) → P (if b then width Signed (digits (tail cs)) else (if d then width Unsigned (digits (tail cs)) else width Signless (digits cs)))
-    go true d = i (digits (tail cs))
-    go false true = u (digits (tail cs))
-    go false false = h (digits cs)
-
 -- ---- the shape of what is read
 
 -- a step of an action, with the tokens where it begins and ends
@@ -71,11 +50,6 @@ module _ (v : Values) (text : ℕ → List ℕ) where
   -- an operation's pieces say as many regions and edges as it has
   abbrev HasParts : Trees ActionSpan → Type 0
   HasParts ts = (regions_said (pieces_in v text ts) ≡ entities_in (regions_in v text ts)) × (successors_said (pieces_in v text ts) ≡ length (successors_in ts)) × AreRegions v (regions_in v text ts)
-
-  -- the same of a piece, and those behind it
-  abbrev SaysParts : Piece → Trees ActionSpan → Type 0
-  SaysParts p rest = (regions_said (a_tree (node p no_tree) (pieces_in v text rest)) ≡ entities_in (regions_in v text rest))
-      × (successors_said (a_tree (node p no_tree) (pieces_in v text rest)) ≡ length (successors_in rest))
 
   abbrev HasOperations : List ℕ → Trees ActionSpan → Type 0
   HasOperations names ts = AreOperations v (operations_in v text names ts)
@@ -93,8 +67,7 @@ module _ (v : Values) (text : ℕ → List ℕ) where
   Shaped in_argument names ts = HasOperations [] ts
   Shaped in_block names ts = HasOperations names ts
   Shaped behind_results names ts = HasOperations names ts
-  Shaped in_type names ts = Unit {0}
-  Shaped in_attribute names ts = Unit {0}
+  Shaped (in_value sort) names ts = Unit {0}
   Shaped in_list names ts = Unit {0}
   Shaped in_item names ts = Unit {0}
 
@@ -110,8 +83,7 @@ module _ (v : Values) (text : ℕ → List ℕ) where
   none in_argument names = tt
   none in_block names = tt
   none behind_results names = tt
-  none in_type names = tt
-  none in_attribute names = tt
+  none (in_value sort) names = tt
   none in_list names = tt
   none in_item names = tt
 
@@ -140,17 +112,8 @@ module _ (v : Values) (text : ℕ → List ℕ) where
     shape behind_root_results (act.Operation kind) pl many c = an_operation kind many pl.0 (more at_end [] pl.1 c)
     shape behind_root_results _ pl many c = absurd pl
     shape at_end a pl many c = absurd pl
-    shape in_operation act.Name pl many c = more in_operation [] pl c
-    shape in_operation act.Number pl many c =
-        let r = more in_operation [] pl c in
-        let said = number_so (λ z. SaysParts z rest) (λ negative magnitude. (r.0, r.1)) (text f) in
-        (said.0, said.1, r.2)
-    shape in_operation act.Width pl many c =
-        let r = more in_operation [] pl c in
-        let said = width_so (λ z. SaysParts z rest) (λ bits. (r.0, r.1)) (λ bits. (r.0, r.1)) (λ bits. (r.0, r.1)) (text f) in
-        (said.0, said.1, r.2)
-    shape in_operation (act.BeginType kind) pl many c = more in_operation [] pl.1 c
-    shape in_operation (act.BeginAttribute kind) pl many c = more in_operation [] pl.1 c
+    shape in_operation (act.Leaf sort) pl many c = more in_operation [] pl c
+    shape in_operation (act.Begin sort kind) pl many c = more in_operation [] pl.1 c
     shape in_operation act.BeginList pl many c = more in_operation [] pl.1 c
     shape in_operation act.BeginOperands pl many c = more in_operation [] pl.1 c
     shape in_operation act.BeginSuccessor pl many c =
@@ -167,7 +130,7 @@ module _ (v : Values) (text : ℕ → List ℕ) where
     shape in_header act.Argument pl many c = more in_argument [] pl c
     shape in_header act.Header pl many c = more in_block [] pl c
     shape in_header _ pl many c = absurd pl
-    shape in_argument (act.BeginType kind) pl many c = more in_header [] pl.1 c
+    shape in_argument (act.Begin sorts.«Type» kind) pl many c = more in_header [] pl.1 c
     shape in_argument _ pl many c = absurd pl
     shape in_block act.Result pl many c = more behind_results (names ++ f ∷ []) pl c
     shape in_block (act.Operation kind) pl many c = an_operation kind many pl.0 (more in_block [] pl.1 c)
@@ -175,8 +138,7 @@ module _ (v : Values) (text : ℕ → List ℕ) where
     shape behind_results act.Result pl many c = more behind_results (names ++ f ∷ []) pl c
     shape behind_results (act.Operation kind) pl many c = an_operation kind many pl.0 (more in_block [] pl.1 c)
     shape behind_results _ pl many c = absurd pl
-    shape in_type a pl many c = tt
-    shape in_attribute a pl many c = tt
+    shape (in_value sort) a pl many c = tt
     shape in_list a pl many c = tt
     shape in_item a pl many c = tt
 

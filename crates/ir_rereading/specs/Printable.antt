@@ -6,7 +6,7 @@ use Rattle.ir_print.specs.Formats as step
 use Rattle.ir_print.specs.Formats.{Formats, Kind, Step, Steps, no_steps}
 use Rattle.ir_print.specs.Pieces.{Pieces, Values, EntityHead, block, Entity, entity, Entities, no_entity, an_entity}
 use Rattle.ir_print.specs.Layout.{layout, AreFlat}
-use Rattle.ir_print.specs.Printed.{value_name, label_front, block_name}
+use Rattle.ir_print.specs.Printed.{value_name, label_front, block_name, IsLabel}
 use Rattle.ir_tokens.specs.Tokens.{is_letter, is_name_char, is_sign}
 use Rattle.ir_formats.specs.Words.{is_width}
 use Rattle.ir_formats.specs.Rules.{words_of, parts_of, rules_of}
@@ -19,30 +19,34 @@ use Rattle.ir_forest.specs.Closed.{AllDistinct, definitions_of, IsLabelled, unla
 
 -- ---- texts
 
--- This is the name of a block as it is printed.
-pub record HasBlockName (named : List ℕ) : Type 0 where
+-- This is the name of a block with this label as it is printed.
+pub record HasBlockName (label named : List ℕ) : Type 0 where
   pub given : Option Identifier
+  pub own : IsLabel given label
   pub slot : ℕ
   pub version : ℕ
   pub small : (slot < 2 ^ 64) × (version < 2 ^ 64)
   pub spelt : named ≡ block_name (label_front given) slot version
 
--- a block is printed with its name as its label
-abbrev pub HasLabelName : EntityHead (List ℕ) → Type 0
-HasLabelName (block named label arguments) = (label ≡ named) × HasBlockName named
-HasLabelName _ = Unit {0}
+-- a block is printed with its name as its label, and its own label stands in front of it
+abbrev pub HasLabelName : {N : Type 0} → EntityHead N → EntityHead (List ℕ) → Type 0
+HasLabelName (block b own xs) (block named label arguments) = (label ≡ named) × HasBlockName own named
+HasLabelName (block b own xs) _ = ⊥
+HasLabelName _ (block named label arguments) = ⊥
+HasLabelName _ _ = Unit {0}
 
 abbrev mutual
-  -- each label is a name of a block, its own
-  pub HasBlockNames : Entity (List ℕ) → Type 0
-  HasBlockNames (entity h ts) = HasLabelName h × HaveBlockNames ts
+  -- each block of a tree is printed under a name of its own, with its label
+  pub HasBlockNames : {N : Type 0} → Entity N → Entity (List ℕ) → Type 0
+  HasBlockNames (entity g us) (entity h ts) = HasLabelName g h × HaveBlockNames us ts
 
-  pub HaveBlockNames : Entities (List ℕ) → Type 0
-  HaveBlockNames no_entity = Unit {0}
-  HaveBlockNames (an_entity t ts) = HasBlockNames t × HaveBlockNames ts
+  pub HaveBlockNames : {N : Type 0} → Entities N → Entities (List ℕ) → Type 0
+  HaveBlockNames no_entity no_entity = Unit {0}
+  HaveBlockNames (an_entity u us) (an_entity t ts) = HasBlockNames u t × HaveBlockNames us ts
+  HaveBlockNames _ _ = ⊥
 
--- The text is one of the tree: its layout, in which values are named by numbers and blocks by slots and versions, no two values the
--- same, and no two blocks of a region.
+-- The text is one of the tree: its layout, in which values are named by numbers and blocks by their labels, slots and versions, no two
+-- values the same, and no two blocks of a region.
 pub record IsLayoutOf (f : Formats) (tree : Entity ℕ) (text : List ℕ) : Type 0 where
   -- the number in the name of each value
   pub number : ℕ → ℕ
@@ -53,7 +57,7 @@ pub record IsLayoutOf (f : Formats) (tree : Entity ℕ) (text : List ℕ) : Type
   pub printed : Entity (List ℕ)
   pub named : unlabelled printed ≡ unlabelled (renamed (λ n. value_name (number n)) label tree)
   pub distinct : AllDistinct (definitions_of printed)
-  pub blocks : HasBlockNames printed
+  pub blocks : HasBlockNames tree printed
   pub labelled : IsLabelled printed
   pub spelt : text ≡ layout f printed
 

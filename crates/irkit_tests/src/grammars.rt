@@ -2,6 +2,7 @@
 use ir_characters::{Characters, Text};
 use ir_formats::words::classify;
 use ir_grammar::{Action, Change, Class, Event, Grammar, Rule, Stop, Symbol};
+use ir_print::{LeafSort, ValueSort};
 use ir_tokens::{TokenKind, place_after, token_at};
 use std::alloc::{AllocError, Global};
 
@@ -152,7 +153,13 @@ fn grammar(alloc: Global, parts: usize, given: &[(u32, &[Symbol])]) -> Result<Gr
 
 /// Part 0 is a name or a region, and part 1 what stands in a region: as many of part 0 as may be.
 const NESTED: &[(u32, &[Symbol])] = &[
-    (0, &[Symbol::Sign(NAME), Symbol::Act(Action::Name)]),
+    (
+        0,
+        &[
+            Symbol::Sign(NAME),
+            Symbol::Act(Action::Leaf(LeafSort::Name)),
+        ],
+    ),
     (
         0,
         &[
@@ -186,7 +193,7 @@ const BEGIN: Event = Event::Did(Action::BeginRegion);
 
 const END: Event = Event::Did(Action::EndRegion);
 
-const NAMED: Event = Event::Did(Action::Name);
+const NAMED: Event = Event::Did(Action::Leaf(LeafSort::Name));
 
 const ITEM: Event = Event::Did(Action::EndItem);
 
@@ -275,11 +282,11 @@ fn nested_lists_are_read(rt: HostRuntime) -> Result<(), AllocError> {
 /// Actions, with what they do to the number of open parts.
 const ACTIONS: &[(Action, Change)] = &[
     (Action::BeginRegion, Change::Opens),
-    (Action::BeginType(3), Change::Opens),
-    (Action::BeginAttribute(3), Change::Opens),
+    (Action::Begin(ValueSort::Type, 3), Change::Opens),
+    (Action::Begin(ValueSort::Attribute, 3), Change::Opens),
     (Action::EndRegion, Change::Closes),
-    (Action::EndType, Change::Closes),
-    (Action::EndAttribute, Change::Closes),
+    (Action::End(ValueSort::Type), Change::Closes),
+    (Action::End(ValueSort::Attribute), Change::Closes),
     (Action::Operation(0), Change::Keeps),
     (Action::BeginList, Change::Keeps),
     (Action::EndList, Change::Keeps),

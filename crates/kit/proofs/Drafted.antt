@@ -8,8 +8,8 @@ use Rattle.ir_names.specs.declared.identifier.Identifier.{Identifier}
 use Rattle.ir_names.specs.Identifier.{text_of}
 use Rattle.ir_names.specs.Tree.{LabelledTree, Trees, node, no_tree, a_tree}
 use Rattle.ir_print.specs.declared.format.Part.{Part}
-use Rattle.ir_print.specs.Pieces.{list, item, number, width, type_of_kind, attribute_of_kind, region, name, operands, successor, ValueTree, Pieces}
-use Rattle.ir_print.specs.Shown.{Said, said_width, said_type, said_attribute, Shows, Pairs, said_name, said_region, said_operands, said_successor, leaf, ShowsAll, ShowsPart, ShowsType}
+use Rattle.ir_print.specs.Pieces.{list, item, leaf, width, value_of_kind, region, name, operands, successor, ValueTree, Pieces}
+use Rattle.ir_print.specs.Shown.{Said, said_leaf, said_type, said_attribute, Shows, Pairs, said_region, said_operands, said_successor, alone, ShowsAll, ShowsPart, ShowsType}
 use Rattle.kit_ops.specs.declared.kinds.KitOp.{KitOp}
 use Rattle.kit_ops.specs.Keys.{symbol_name, function_type, constant_value, callee, callee_type, segment_sizes}
 use Rattle.kit.specs.Forms.{OpForm, NamedRegion, TypedRegion, Value, TwoOperands, OneOperand, AnyOperands, Empty, Called, Edge, ConditionEdges}
@@ -27,10 +27,11 @@ use Rattle.kit.specs.Readable.{constant_said_so}
 use Rattle.kit.specs.Seen.{seen}
 use Rattle.kit.proofs.Shapes.{name_shown, not_name, region_shown, not_region, type_shown, not_type, operands_shown, not_operands, operand_shown, not_operand, successor_shown, not_successor, one_shown, two_shown, three_shown, not_one, not_two, not_three_pieces, attribute_shown}
 use Rattle.kit.proofs.Made.{and_false}
+use Rattle.ir_print.specs.declared.format.ValueSort.TheVariants as sorts
 use Rattle.kit.proofs.Returned.{returned_shown}
 
 abbrev name_piece : List ℕ → Said KitAttr
-name_piece cs = said_name cs
+name_piece cs = said_leaf (name cs)
 
 not_true : (b : Bool) → (b ≡ true → ⊥) → b ≡ false
 not_true true n = absurd (n refl)
@@ -120,16 +121,14 @@ says_integer other n us e f = cc
 mutual
   -- what is shown stays so where types are kept
   pub shows_later : (old new : List KitType) → ((ty : TypeHandle) (key : KitType) → slice_get old ty.number ≡ Some key → slice_get new ty.number ≡ Some key) → (x : LabelledTree (Said KitAttr)) (t : ValueTree) → Shows says old x t → Shows says new x t
-  shows_later old new kept x (node (type_of_kind n) ts) h = (h.0, h.1, h.2, h.3, kept h.0 h.1 h.4, h.5, all_later old new kept h.2 ts h.6)
-  shows_later old new kept x (node (attribute_of_kind n) ts) h = (h.0, h.1, h.2, h.3, all_later old new kept h.1 ts h.4)
+  shows_later old new kept x (node (value_of_kind sorts.«Type» n) ts) h = (h.0, h.1, h.2, h.3, kept h.0 h.1 h.4, h.5, all_later old new kept h.2 ts h.6)
+  shows_later old new kept x (node (value_of_kind sorts.Attribute n) ts) h = (h.0, h.1, h.2, h.3, all_later old new kept h.1 ts h.4)
   shows_later old new kept x (node list ts) h = (h.0, h.1, all_later old new kept h.0 ts h.2)
   shows_later old new kept x (node item ts) h = (h.0, h.1, all_later old new kept h.0 ts h.2)
   shows_later old new kept x (node (operands n) ts) h = h
   shows_later old new kept x (node (successor n) ts) h = h
   shows_later old new kept x (node region ts) h = h
-  shows_later old new kept x (node (name cs) ts) h = h
-  shows_later old new kept x (node (number b m) ts) h = h
-  shows_later old new kept x (node (width s w) ts) h = h
+  shows_later old new kept x (node (leaf l) ts) h = h
 
   pub all_later : (old new : List KitType) → ((ty : TypeHandle) (key : KitType) → slice_get old ty.number ≡ Some key → slice_get new ty.number ≡ Some key) → (us : Trees (Said KitAttr)) (ts : Pieces) → ShowsAll says old us ts → ShowsAll says new us ts
   all_later old new kept no_tree no_tree h = tt
@@ -138,21 +137,21 @@ mutual
   all_later old new kept (a_tree u us) (a_tree t ts) h = (shows_later old new kept u t h.0, all_later old new kept us ts h.1)
 
 -- a width is that piece
-width_piece : (types : List KitType) (s : Signedness) (w : ℕ) (t : ValueTree) → Shows says types (leaf (said_width s w)) t → (ts : Pieces) × (t ≡ node (width s w) ts)
-width_piece types s w t h = seen says types (leaf (said_width s w)) t h
+width_piece : (types : List KitType) (s : Signedness) (w : ℕ) (t : ValueTree) → Shows says types (alone (said_leaf (width s w))) t → (ts : Pieces) × (t ≡ node (leaf (width s w)) ts)
+width_piece types s w t h = seen says types (alone (said_leaf (width s w))) t h
 
 -- the types of what an integer says
-integer_typed : (old new : List KitType) (i : IntegerType) (ty : TypeHandle) (x : Said KitAttr) (ts : Pieces) → nat_lt i.width (2 ^ 32) ≡ true → slice_get new ty.number ≡ Some (keys.Integer i) → ShowsAll says old (two (leaf x) (leaf (said_width i.signedness i.width))) ts → Pairs (ShowsType says new) (ty ∷ []) (integer_types ts)
+integer_typed : (old new : List KitType) (i : IntegerType) (ty : TypeHandle) (x : Said KitAttr) (ts : Pieces) → nat_lt i.width (2 ^ 32) ≡ true → slice_get new ty.number ≡ Some (keys.Integer i) → ShowsAll says old (two (alone x) (alone (said_leaf (width i.signedness i.width)))) ts → Pairs (ShowsType says new) (ty ∷ []) (integer_types ts)
 integer_typed old new i ty x no_tree small e h = absurd h
 integer_typed old new i ty x (a_tree t no_tree) small e h = absurd h.1
 integer_typed old new i ty x (a_tree t (a_tree u (a_tree v vs))) small e h = absurd h.1.1
 integer_typed old new i ty x (a_tree t (a_tree u no_tree)) small e h = let w = width_piece old i.signedness i.width u h.1.0 in
     subst (λ (v : ValueTree). Pairs (ShowsType says new) (ty ∷ []) (integer_types (a_tree t (a_tree v no_tree)))) (sym w.1)
-    ((ty, keys.Integer i, one (leaf (said_width i.signedness i.width)), refl, e, ap (λ (b : Bool). only b (Some (0, one (leaf (said_width i.signedness i.width))))) small, (refl, tt)), tt)
+    ((ty, keys.Integer i, one (alone (said_leaf (width i.signedness i.width))), refl, e, ap (λ (b : Bool). only b (Some (0, one (alone (said_leaf (width i.signedness i.width)))))) small, (refl, tt)), tt)
 
 module _ {D : Type 0} where
   no_integer : (types : List KitType) (p : Part D KitOp KitAttr KitType) (t : ValueTree) → option_and_then integer_of (attribute_part p) ≡ None → ShowsPart says types p t → is_attribute t ≡ false
-  no_integer types p (node (attribute_of_kind n) ts) e h =
+  no_integer types p (node (value_of_kind sorts.Attribute n) ts) e h =
       let here : option_and_then integer_of (attribute_part p) ≡ integer_of h.0 = ap (λ (q : Part D KitOp KitAttr KitType). option_and_then integer_of (attribute_part q)) h.1 in
       let same : h.0 ≡ h.2.0 = let f = h.2.2 in cc in
       absurd (says_integer h.2.0 n h.2.1 h.2.3 (sym (ap integer_of same) ∙ (sym here ∙ e)))
@@ -178,10 +177,10 @@ module _ {D : Type 0} where
       let first = name_shown says types p id pieces.0 parts.1 pieces.4 in
       let second = type_shown says types q ty pieces.1 parts.2 pieces.5 in
       let third = region_shown says types r parts.0 pieces.2 parts.3 pieces.6 in
-      let text : name_piece (text_of copy) ≡ name_piece first.0 = ap said_name (f ∙ first.3) in
+      let text : name_piece (text_of copy) ≡ name_piece first.0 = ap (λ (cs : List ℕ). said_leaf (name cs)) (f ∙ first.3) in
       subst (λ (qs : Pieces). (refused_in TypedRegion qs ≡ None) × FormDrafts TypedRegion types qs ((symbol_name, attrs.Identifier copy) ∷ (function_type, attrs.«Type» ty) ∷ []) [])
-      (sym (pieces.3 ∙ (ap (λ t. a_tree t (a_tree pieces.1 (a_tree pieces.2 no_tree))) first.2 ∙ (ap (λ t. a_tree (node (name first.0) first.1) (a_tree t (a_tree pieces.2 no_tree))) second.2 ∙ ap (λ t. a_tree (node (name first.0) first.1) (a_tree (node (type_of_kind second.0) second.1) (a_tree t no_tree))) third.1))))
-      (refl, record { pieces = a_tree (leaf (said_name (text_of copy))) (two (leaf (said_type ty)) (leaf said_region)); said = refl; shown = (ap leaf text, (second.3, (refl, tt))); typed = tt })
+      (sym (pieces.3 ∙ (ap (λ t. a_tree t (a_tree pieces.1 (a_tree pieces.2 no_tree))) first.2 ∙ (ap (λ t. a_tree (node (leaf (name first.0)) first.1) (a_tree t (a_tree pieces.2 no_tree))) second.2 ∙ ap (λ t. a_tree (node (leaf (name first.0)) first.1) (a_tree (node (value_of_kind sorts.«Type» second.0) second.1) (a_tree t no_tree))) third.1))))
+      (refl, record { pieces = a_tree (alone (said_leaf (name (text_of copy)))) (two (alone (said_type ty)) (alone said_region)); said = refl; shown = (ap alone text, (second.3, (refl, tt))); typed = tt })
 
   pub function_refused : (parts : List (Part D KitOp KitAttr KitType)) (types : List KitType) → function_header parts ≡ None → RefusesForm TypedRegion parts types 0
   function_refused parts types e = λ ps h. ap (λ (b : Bool). refused_unless b 0) (not_three_pieces says types is_name is_type is_region parts ps h
@@ -199,10 +198,10 @@ module _ {D : Type 0} where
       let said = integer_says (fits_bits a) (integer_said a.integer.signedness a.integer.width (printed_number a)) shown.0 shown.3.1 (sym (ap said_of_attribute attr) ∙ shown.3.3) in
       let pieces : ShowsAll says old (integer_said a.integer.signedness a.integer.width (printed_number a)) shown.1 = subst (λ (us : Trees (Said KitAttr)). ShowsAll says old us shown.1) (sym said.1) shown.3.4 in
       subst (λ (qs : Pieces). (refused_in Value qs ≡ None) × FormDrafts Value new qs ((constant_value, attrs.Integer (of_type ty a)) ∷ []) (ty ∷ []))
-      (sym (only_piece.1 ∙ (ap (λ t. a_tree t no_tree) shown.2 ∙ ap (λ (n : ℕ). a_tree (node (attribute_of_kind n) shown.1) no_tree) (sym said.0)))) (
+      (sym (only_piece.1 ∙ (ap (λ t. a_tree t no_tree) shown.2 ∙ ap (λ (n : ℕ). a_tree (node (value_of_kind sorts.Attribute n) shown.1) no_tree) (sym said.0)))) (
         refl,
         record {
-          pieces = one (leaf (said_attribute (attrs.Integer (of_type ty a))));
+          pieces = one (alone (said_attribute (attrs.Integer (of_type ty a))));
           said = constant_said_so (of_type ty a);
           shown = ((attrs.Integer (of_type ty a), shown.3.1, refl, sym (ap said_of_attribute attr) ∙ shown.3.3 ∙ ap (λ (n : ℕ). Some (n, shown.3.1)) (sym said.0), all_later old new kept shown.3.1 shown.1 shown.3.4), tt);
           typed = integer_typed old new a.integer ty _ shown.1 (fits_width a said.2) k pieces;
@@ -221,10 +220,10 @@ module _ {D : Type 0} where
       let parts = beside (region_part q) (name_part p) id e in
       let first = name_shown says types p id pieces.0 parts.2 pieces.3 in
       let second = region_shown says types q parts.0 pieces.1 parts.1 pieces.4 in
-      let text : name_piece (text_of copy) ≡ name_piece first.0 = ap said_name (f ∙ first.3) in
+      let text : name_piece (text_of copy) ≡ name_piece first.0 = ap (λ (cs : List ℕ). said_leaf (name cs)) (f ∙ first.3) in
       subst (λ (qs : Pieces). (refused_in NamedRegion qs ≡ None) × FormDrafts NamedRegion types qs ((symbol_name, attrs.Identifier copy) ∷ []) [])
-      (sym (pieces.2 ∙ (ap (λ t. a_tree t (a_tree pieces.1 no_tree)) first.2 ∙ ap (λ t. a_tree (node (name first.0) first.1) (a_tree t no_tree)) second.1)))
-      (refl, record { pieces = two (leaf (said_name (text_of copy))) (leaf said_region); said = refl; shown = (ap leaf text, (refl, tt)); typed = tt })
+      (sym (pieces.2 ∙ (ap (λ t. a_tree t (a_tree pieces.1 no_tree)) first.2 ∙ ap (λ t. a_tree (node (leaf (name first.0)) first.1) (a_tree t no_tree)) second.1)))
+      (refl, record { pieces = two (alone (said_leaf (name (text_of copy)))) (alone said_region); said = refl; shown = (ap alone text, (refl, tt)); typed = tt })
 
   pub module_refused : (parts : List (Part D KitOp KitAttr KitType)) (types : List KitType) → module_name parts ≡ None → RefusesForm NamedRegion parts types 0
   module_refused parts types e = λ ps h. ap (λ (b : Bool). refused_unless b 0) (not_two says types is_name is_region parts ps h
@@ -237,7 +236,7 @@ module _ {D : Type 0} where
       let only = one_shown says types p ps h in
       let shown = operands_shown says types p n only.0 e only.2 in
       subst (λ (qs : Pieces). (refused_in AnyOperands qs ≡ None) × FormDrafts AnyOperands types qs [] []) (sym (only.1 ∙ ap (λ t. a_tree t no_tree) shown.1))
-      (let same : n + 0 ≡ n = omega arith in (refl, record { pieces = one (leaf (said_operands (n + 0))); said = refl; shown = (ap (λ (i : ℕ). leaf (said_operands i)) same, tt); typed = tt }))
+      (let same : n + 0 ≡ n = omega arith in (refl, record { pieces = one (alone (said_operands (n + 0))); said = refl; shown = (ap (λ (i : ℕ). alone (said_operands i)) same, tt); typed = tt }))
 
   pub operands_refused : (parts : List (Part D KitOp KitAttr KitType)) (types : List KitType) → one_operands parts ≡ None → RefusesForm AnyOperands parts types 0
   operands_refused parts types e = λ ps h. ap (λ (b : Bool). refused_unless b 0) (not_one says types are_operands parts ps h (λ p t f s. not_operands says types p t (sym (ap one_operands f) ∙ e) s))
@@ -256,7 +255,7 @@ module _ {D : Type 0} where
       let third = type_shown says types r ty pieces.2 parts.1 pieces.6 in
       subst (λ (qs : Pieces). (refused_in TwoOperands qs ≡ None) × FormDrafts TwoOperands types qs [] (ty ∷ []))
       (sym (pieces.3 ∙ (ap (λ t. a_tree t (a_tree pieces.1 (a_tree pieces.2 no_tree))) first.1 ∙ (ap (λ t. a_tree (node (operands 1) first.0) (a_tree t (a_tree pieces.2 no_tree))) second.1 ∙ ap (λ t. a_tree (node (operands 1) first.0) (a_tree (node (operands 1) second.0) (a_tree t no_tree))) third.2))))
-      (refl, record { pieces = a_tree (leaf (said_operands 1)) (two (leaf (said_operands 1)) (leaf (said_type ty))); said = refl; shown = (refl, (refl, (third.3, tt))); typed = (third.3, tt) })
+      (refl, record { pieces = a_tree (alone (said_operands 1)) (two (alone (said_operands 1)) (alone (said_type ty))); said = refl; shown = (refl, (refl, (third.3, tt))); typed = (third.3, tt) })
 
   pub pair_refused : (parts : List (Part D KitOp KitAttr KitType)) (types : List KitType) → pair_type parts ≡ None → RefusesForm TwoOperands parts types 0
   pair_refused parts types e = λ ps h. ap (λ (b : Bool). refused_unless b 0) (not_three_pieces says types is_operand is_operand is_type parts ps h
@@ -270,7 +269,7 @@ module _ {D : Type 0} where
       let only = one_shown says types p ps h in
       let shown = operands_shown says types p 1 only.0 e only.2 in
       subst (λ (qs : Pieces). (refused_in OneOperand qs ≡ None) × FormDrafts OneOperand types qs [] []) (sym (only.1 ∙ ap (λ t. a_tree t no_tree) shown.1))
-      (refl, record { pieces = one (leaf (said_operands 1)); said = refl; shown = (refl, tt); typed = tt })
+      (refl, record { pieces = one (alone (said_operands 1)); said = refl; shown = (refl, tt); typed = tt })
 
   pub operand_refused : (parts : List (Part D KitOp KitAttr KitType)) (types : List KitType) → (one_operands parts ≡ Some 1 → ⊥) → RefusesForm OneOperand parts types 0
   operand_refused parts types e = λ ps h. ap (λ (b : Bool). refused_unless b 0) (not_one says types is_operand parts ps h (λ p t f s. no_operand types p t (λ g. e (ap one_operands f ∙ g)) s))
@@ -298,11 +297,11 @@ module _ {D : Type 0} where
       let first = name_shown says types p id pieces.0 parts.1 pieces.4 in
       let second = operands_shown says types q parts.0 pieces.1 parts.3 pieces.5 in
       let third = type_shown says types r ty pieces.2 parts.2 pieces.6 in
-      let text : name_piece (text_of copy) ≡ name_piece first.0 = ap said_name (f ∙ first.3) in
+      let text : name_piece (text_of copy) ≡ name_piece first.0 = ap (λ (cs : List ℕ). said_leaf (name cs)) (f ∙ first.3) in
       let same : parts.0 + 0 ≡ parts.0 = omega arith in
       subst (λ (qs : Pieces). (refused_in Called qs ≡ None) × FormDrafts Called types qs ((callee, attrs.Identifier copy) ∷ (callee_type, attrs.«Type» ty) ∷ []) (returned_by (slice_get types ty.number)))
-      (sym (pieces.3 ∙ (ap (λ t. a_tree t (a_tree pieces.1 (a_tree pieces.2 no_tree))) first.2 ∙ (ap (λ t. a_tree (node (name first.0) first.1) (a_tree t (a_tree pieces.2 no_tree))) second.1 ∙ ap (λ t. a_tree (node (name first.0) first.1) (a_tree (node (operands parts.0) second.0) (a_tree t no_tree))) third.2))))
-      (refl, record { pieces = call_said (text_of copy) ty (parts.0 + 0); said = refl; shown = (ap leaf text, (ap (λ (i : ℕ). leaf (said_operands i)) same, (third.3, tt))); typed = returned_shown types ty third.0 third.1 third.3 })
+      (sym (pieces.3 ∙ (ap (λ t. a_tree t (a_tree pieces.1 (a_tree pieces.2 no_tree))) first.2 ∙ (ap (λ t. a_tree (node (leaf (name first.0)) first.1) (a_tree t (a_tree pieces.2 no_tree))) second.1 ∙ ap (λ t. a_tree (node (leaf (name first.0)) first.1) (a_tree (node (operands parts.0) second.0) (a_tree t no_tree))) third.2))))
+      (refl, record { pieces = call_said (text_of copy) ty (parts.0 + 0); said = refl; shown = (ap alone text, (ap (λ (i : ℕ). alone (said_operands i)) same, (third.3, tt))); typed = returned_shown types ty third.0 third.1 third.3 })
 
   pub call_refused : (parts : List (Part D KitOp KitAttr KitType)) (types : List KitType) → call_header parts ≡ None → RefusesForm Called parts types 0
   call_refused parts types e = λ ps h. ap (λ (b : Bool). refused_unless b 0) (not_three_pieces says types is_name are_operands is_type parts ps h
@@ -316,7 +315,7 @@ module _ {D : Type 0} where
       let only = one_shown says types p ps h in
       let shown = successor_shown says types p n only.0 e only.2 in
       subst (λ (qs : Pieces). (refused_in Edge qs ≡ None) × FormDrafts Edge types qs [] []) (sym (only.1 ∙ ap (λ t. a_tree t no_tree) shown.1))
-      (let same : n + 0 ≡ n = omega arith in (refl, record { pieces = one (leaf (said_successor (n + 0))); said = refl; shown = (ap (λ (i : ℕ). leaf (said_successor i)) same, tt); typed = tt }))
+      (let same : n + 0 ≡ n = omega arith in (refl, record { pieces = one (alone (said_successor (n + 0))); said = refl; shown = (ap (λ (i : ℕ). alone (said_successor i)) same, tt); typed = tt }))
 
   pub edge_refused : (parts : List (Part D KitOp KitAttr KitType)) (types : List KitType) → one_edge parts ≡ None → RefusesForm Edge parts types 0
   edge_refused parts types e = λ ps h. ap (λ (b : Bool). refused_unless b 0) (not_one says types is_edge parts ps h (λ p t f s. not_successor says types p t (sym (ap one_edge f) ∙ e) s))

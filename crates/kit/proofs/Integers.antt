@@ -6,8 +6,8 @@ use Rattle.std.proofs.lemmas.Bool.Decides.{nat_tests}
 use Rattle.ir_names.specs.Tree.{LabelledTree, node, no_tree, a_tree, label_of}
 use Rattle.ir_print.specs.declared.format.Number.{Number}
 use Rattle.ir_print.specs.declared.format.Part.{Part}
-use Rattle.ir_print.specs.Pieces.{width, list, item, region, name, operands, successor, number, type_of_kind, attribute_of_kind, ValueTree, Pieces}
-use Rattle.ir_print.specs.Shown.{Said, IsNumber, said_number, leaf, ShowsPart, ShowsParts, ShowsAttribute}
+use Rattle.ir_print.specs.Pieces.{leaf, width, list, item, region, name, operands, successor, number, value_of_kind, ValueTree, Pieces}
+use Rattle.ir_print.specs.Shown.{Said, IsNumber, said_leaf, alone, ShowsPart, ShowsParts, ShowsAttribute}
 use Rattle.kit_ops.specs.declared.kinds.KitOp.{KitOp}
 use Rattle.kit_ops.specs.declared.types.KitType.{KitType}
 use Rattle.kit_ops.specs.declared.types.IntegerType.{IntegerType}
@@ -17,7 +17,8 @@ use Rattle.kit_ops.specs.declared.attributes.KitAttr.TheVariants as attrs
 use Rattle.kit.specs.Numbers.{HasValues, IsNumberOfType, number_modulo, number_of_bits, printed_number}
 use Rattle.kit.specs.Parts.{number_part, integer_part}
 use Rattle.kit.specs.Says.{says, only, integer_said, has_values, bits_of, is_number_of, refused_unless, refused_integer, refused_attribute, canonical}
-use Rattle.kit.proofs.Shapes.{width_shown, number_shown, two_shown, wide}
+use Rattle.ir_print.specs.declared.format.ValueSort.TheVariants as sorts
+use Rattle.kit.proofs.Shapes.{width_shown, number_shown, two_shown, wide_leaf, number_none}
 
 values_hold : (w : ℕ) → 1 ≤ w → w ≤ 64 → has_values w ≡ true
 values_hold w least most = let a : nat_le 1 w ≡ true = grind (arith, nat_tests) in let b : nat_le w 64 ≡ true = grind (arith, nat_tests) in ap (λ (x : Bool). x && nat_le w 64) a ∙ b
@@ -38,16 +39,16 @@ not_true false n = refl
 too_wide : (w : ℕ) → 2 ^ 32 ≤ w → has_values w ≡ false
 too_wide w h = let b : nat_le w 64 ≡ false = grind (arith, nat_tests) in and_none (nat_le 1 w) (nat_le w 64) b
 
-range_holds : (w : ℕ) (b : Bool) (m : ℕ) → cond b (2 * m ≤ 2 ^ w) (m < 2 ^ w) → is_number_of w (number b m) ≡ true
+range_holds : (w : ℕ) (b : Bool) (m : ℕ) → cond b (2 * m ≤ 2 ^ w) (m < 2 ^ w) → is_number_of w (leaf (number b m)) ≡ true
 range_holds w true m h = grind (arith, nat_tests)
 range_holds w false m h = grind (arith, nat_tests)
 
-range_fails : (w : ℕ) (b : Bool) (m : ℕ) → (cond b (2 * m ≤ 2 ^ w) (m < 2 ^ w) → ⊥) → is_number_of w (number b m) ≡ false
+range_fails : (w : ℕ) (b : Bool) (m : ℕ) → (cond b (2 * m ≤ 2 ^ w) (m < 2 ^ w) → ⊥) → is_number_of w (leaf (number b m)) ≡ false
 range_fails w true m n = not_true (nat_le (2 * m) (2 ^ w)) (λ e. n (grind (arith, nat_tests)))
 range_fails w false m n = not_true (nat_lt m (2 ^ w)) (λ e. n (grind (arith, nat_tests)))
 
 abbrev number_leaf : Number → LabelledTree (Said KitAttr)
-number_leaf n = leaf (said_number n.is_negative n.magnitude)
+number_leaf n = alone (said_leaf (number n.is_negative n.magnitude))
 
 -- bits that were read are those of the type
 low_test : (m n : ℕ) → m < n → nat_lt m n ≡ true
@@ -77,29 +78,27 @@ second_of_two (a ∷ b ∷ c ∷ rest) y n e = absurd (omega arith)
 module _ {D : Type 0} where
   -- what is no width has no values
   no_values : (types : List KitType) (q : Part D KitOp KitAttr KitType) (t : ValueTree) → integer_part q ≡ None → ShowsPart says types q t → has_values (bits_of (label_of t)) ≡ false
-  no_values types q (node (type_of_kind n) ts) e h = refl
-  no_values types q (node (attribute_of_kind n) ts) e h = refl
+  no_values types q (node (value_of_kind sort n) ts) e h = refl
   no_values types q (node list ts) e h = refl
   no_values types q (node item ts) e h = refl
   no_values types q (node (operands n) ts) e h = refl
   no_values types q (node (successor n) ts) e h = refl
   no_values types q (node region ts) e h = refl
-  no_values types q (node (name cs) ts) e h = refl
-  no_values types q (node (number b m) ts) e h = refl
-  no_values types q (node (width sign bits) ts) e h = too_wide bits (wide sign bits h.0 (sym (ap integer_part h.1) ∙ e) h.2)
+  no_values types q (node (leaf (name cs)) ts) e h = refl
+  no_values types q (node (leaf (number b m)) ts) e h = refl
+  no_values types q (node (leaf (width sign bits)) ts) e h = too_wide bits (wide_leaf q h.0 sign bits h.1 e h.2)
 
   -- what is no number of 64 bits is none of the type
   no_number : (types : List KitType) (w : ℕ) → w ≤ 64 → (p : Part D KitOp KitAttr KitType) (t : ValueTree) → number_part p ≡ None → ShowsPart says types p t → is_number_of w (label_of t) ≡ false
-  no_number types w most p (node (type_of_kind n) ts) e h = refl
-  no_number types w most p (node (attribute_of_kind n) ts) e h = refl
+  no_number types w most p (node (value_of_kind sort n) ts) e h = refl
   no_number types w most p (node list ts) e h = refl
   no_number types w most p (node item ts) e h = refl
   no_number types w most p (node (operands n) ts) e h = refl
   no_number types w most p (node (successor n) ts) e h = refl
   no_number types w most p (node region ts) e h = refl
-  no_number types w most p (node (name cs) ts) e h = refl
-  no_number types w most p (node (number b m) ts) e h = range_fails w b m (too_great w b m most h.0 (sym (ap number_part h.1) ∙ e) h.2)
-  no_number types w most p (node (width sign bits) ts) e h = refl
+  no_number types w most p (node (leaf (name cs)) ts) e h = refl
+  no_number types w most p (node (leaf (number b m)) ts) e h = range_fails w b m (let none = number_none p h.0 b m h.1 e h.2 in too_great w b m most none.0 none.1 none.2)
+  no_number types w most p (node (leaf (width sign bits)) ts) e h = refl
 
   pub length_refused : (types : List KitType) (parts : List (Part D KitOp KitAttr KitType)) (ps : Pieces) → (length parts ≡ 2 → ⊥) → ShowsParts says types parts ps → refused_attribute 0 ps ≡ Some 0
   length_refused types parts no_tree n h = refl
@@ -136,7 +135,7 @@ module _ {D : Type 0} where
       rest.2 ∙ ap (λ (b : Bool). refused_unless b 0) (ap (λ (t : ValueTree). is_number_of i.width (label_of t)) shown.1 ∙ range_fails i.width n.is_negative n.magnitude (λ r. not (record { values = v; range = r })))
 
   pub integer_made : (types new : List KitType) (p q : Part D KitOp KitAttr KitType) (n : Number) (a : IntegerAttr) (ps : Pieces) → integer_part q ≡ Some a.integer → number_part p ≡ Some n → IsNumberOfType a.integer n → a.bits ≡ number_modulo a.integer.width n → ShowsParts says types (p ∷ q ∷ []) ps →
-      (refused_attribute 0 ps ≡ None) × ShowsAttribute says new (attrs.Integer a) (node (attribute_of_kind 0) (canonical 0 ps))
+      (refused_attribute 0 ps ≡ None) × ShowsAttribute says new (attrs.Integer a) (node (value_of_kind sorts.Attribute 0) (canonical 0 ps))
   integer_made types new p q n a ps e f is bits h =
       let i = a.integer in
       let pieces = two_shown says types p q ps h in
@@ -145,9 +144,9 @@ module _ {D : Type 0} where
       let values = values_hold a.integer.width is.values.least is.values.most in
       let range = range_holds a.integer.width n.is_negative n.magnitude is.range in
       let low : nat_lt a.bits (2 ^ a.integer.width) ≡ true = ap (λ (m : ℕ). nat_lt m (2 ^ a.integer.width)) bits ∙ is_low a.integer.width n in
-      subst (λ (qs : Pieces). (refused_attribute 0 qs ≡ None) × ShowsAttribute says new (attrs.Integer a) (node (attribute_of_kind 0) (canonical 0 qs)))
-      (sym (pieces.2 ∙ (ap (λ t. a_tree t (a_tree pieces.1 no_tree)) first.1 ∙ ap (λ t. a_tree (node (number n.is_negative n.magnitude) first.0) (a_tree t no_tree)) second.1))) (
-        ap (λ (b : Bool). cond b (refused_unless (is_number_of a.integer.width (number n.is_negative n.magnitude)) 0) (Some 1)) values ∙ ap (λ (b : Bool). refused_unless b 0) range,
+      subst (λ (qs : Pieces). (refused_attribute 0 qs ≡ None) × ShowsAttribute says new (attrs.Integer a) (node (value_of_kind sorts.Attribute 0) (canonical 0 qs)))
+      (sym (pieces.2 ∙ (ap (λ t. a_tree t (a_tree pieces.1 no_tree)) first.1 ∙ ap (λ t. a_tree (node (leaf (number n.is_negative n.magnitude)) first.0) (a_tree t no_tree)) second.1))) (
+        ap (λ (b : Bool). cond b (refused_unless (is_number_of a.integer.width (leaf (number n.is_negative n.magnitude))) 0) (Some 1)) values ∙ ap (λ (b : Bool). refused_unless b 0) range,
         (
           attrs.Integer a,
           integer_said a.integer.signedness a.integer.width (printed_number a),

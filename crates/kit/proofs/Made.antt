@@ -8,8 +8,8 @@ use Rattle.ir_names.specs.Tree.{node, no_tree, a_tree}
 use Rattle.text_dialect.specs.declared.dialect.MakeFault.{MakeFault}
 use Rattle.text_dialect.specs.declared.dialect.MakeFault.TheVariants.{Refused, Memory}
 use Rattle.ir_print.specs.declared.format.Part.{Part}
-use Rattle.ir_print.specs.Pieces.{list, item, ValueTree, Pieces}
-use Rattle.ir_print.specs.Shown.{said_width, said_type, said_list, leaf, ShowsAll, ShowsPart, ShowsParts, ShowsMembers, ShowsKey}
+use Rattle.ir_print.specs.Pieces.{list, item, width, ValueTree, Pieces}
+use Rattle.ir_print.specs.Shown.{said_leaf, said_type, said_list, alone, ShowsAll, ShowsPart, ShowsParts, ShowsMembers, ShowsKey}
 use Rattle.kit_ops.specs.declared.kinds.KitOp.{KitOp}
 use Rattle.kit_ops.specs.declared.types.IntegerType.{IntegerType}
 use Rattle.kit_ops.specs.declared.types.KitType.{KitType}
@@ -80,19 +80,19 @@ module _ {D : Type 0} where
       let wide = width_shown says types p i only.0 e only.2 in
       let test : nat_lt i.width (2 ^ 32) ≡ true = grind (arith, nat_tests) in
       subst (λ (qs : Pieces). (refused_type 0 qs ≡ None) × ShowsKey says types (keys.Integer i) 0 qs) (sym (only.1 ∙ ap (λ t. a_tree t no_tree) wide.1))
-      (ap (λ (b : Bool). refused_unless b 0) test, (one (leaf (said_width i.signedness i.width)), ap (λ (b : Bool). said_if b (Some (0, one (leaf (said_width i.signedness i.width))))) test, (refl, tt)))
+      (ap (λ (b : Bool). refused_unless b 0) test, (one (alone (said_leaf (width i.signedness i.width))), ap (λ (b : Bool). said_if b (Some (0, one (alone (said_leaf (width i.signedness i.width)))))) test, (refl, tt)))
 
   pub integer_type_refused : (parts : List (Part D KitOp KitAttr KitType)) → one_integer_type parts ≡ None → RefusesTypeOfKind 0 parts 0
   integer_type_refused parts e = λ types ps h. ap (λ (b : Bool). refused_unless b 0) (not_one says types is_small_width parts ps h (λ p t f s. not_width says types p t (sym (ap one_integer_type f) ∙ e) s))
 
   -- a member that is one type
-  one_type_shown : (types : List KitType) (parts : List (Part D KitOp KitAttr KitType)) (ty : TypeHandle) (ts : Pieces) → one_type parts ≡ Some ty → ShowsParts says types parts ts → (is_one is_type ts ≡ true) × ShowsAll says types (one (leaf (said_type ty))) ts
+  one_type_shown : (types : List KitType) (parts : List (Part D KitOp KitAttr KitType)) (ty : TypeHandle) (ts : Pieces) → one_type parts ≡ Some ty → ShowsParts says types parts ts → (is_one is_type ts ≡ true) × ShowsAll says types (one (alone (said_type ty))) ts
   one_type_shown types [] ty ts e h = cc
   one_type_shown types (p ∷ q ∷ rs) ty ts e h = cc
   one_type_shown types (p ∷ []) ty ts e h =
       let only = one_shown says types p ts h in
       let shown = type_shown says types p ty only.0 e only.2 in
-      subst (λ (us : Pieces). (is_one is_type us ≡ true) × ShowsAll says types (one (leaf (said_type ty))) us) (sym (only.1 ∙ ap (λ t. a_tree t no_tree) shown.2)) (refl, (shown.3, tt))
+      subst (λ (us : Pieces). (is_one is_type us ≡ true) × ShowsAll says types (one (alone (said_type ty))) us) (sym (only.1 ∙ ap (λ t. a_tree t no_tree) shown.2)) (refl, (shown.3, tt))
 
   -- the types of the members, of those so far and of what is left
   pub types_first : (ms : List (Vec (Part D KitOp KitAttr KitType) Global)) (xs : List TypeHandle) → xs ≡ [] → each_type ms ≡ option_map (λ rest. xs ++ rest) (each_type ms)
@@ -124,7 +124,7 @@ module _ {D : Type 0} where
       let first = one_type_shown types m.items parts.0 us parts.2 h.0 in
       let rest = types_shown types ms parts.1 ts parts.3 h.1 in
       subst (λ (us' : List TypeHandle). ((is_one is_type us && are_types ts) ≡ true) × ShowsAll says types (types_said us') (a_tree (node item us) ts)) parts.4
-      (ap (λ (b : Bool). b && are_types ts) first.0 ∙ rest.0, ((one (leaf (said_type parts.0)), refl, first.1), rest.1))
+      (ap (λ (b : Bool). b && are_types ts) first.0 ∙ rest.0, ((one (alone (said_type parts.0)), refl, first.1), rest.1))
   types_shown types (m ∷ ms) tys (a_tree (node _ us) ts) e h = absurd h.0
 
   not_types : (types : List KitType) (ms : List (Vec (Part D KitOp KitAttr KitType) Global)) (ts : Pieces) → each_type ms ≡ None → ShowsMembers says types ms ts → are_types ts ≡ false

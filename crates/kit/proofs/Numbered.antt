@@ -7,7 +7,7 @@ use Rattle.text_dialect.specs.declared.dialect.MakeFault.{MakeFault}
 use Rattle.text_dialect.specs.Making as made
 use Rattle.ir_print.specs.declared.format.Part.{Part}
 use Rattle.ir_names.specs.Tree.{Trees, node}
-use Rattle.ir_print.specs.Pieces.{Pieces, ValueTree, attribute_of_kind}
+use Rattle.ir_print.specs.Pieces.{Pieces, ValueTree, value_of_kind}
 use Rattle.ir_print.specs.Shown.{Said, Pairs, ShowsType, ShowsParts, ShowsKey, ShowsAttribute, operands_said}
 use Rattle.kit_ops.specs.declared.kinds.KitOp.{KitOp}
 use Rattle.kit_ops.specs.declared.kinds.KitOp.TheVariants as ops
@@ -22,6 +22,7 @@ use Rattle.kit_ops.specs.Arithmetic as kinds
 use Rattle.kit_ops.proofs.Operators as operators
 use Rattle.kit.specs.Forms.{OpForm, form_of, number_of, read_ops, read_types, read_attrs}
 use Rattle.kit.specs.Making.{MakesTypeOfKind, RefusesTypeOfKind, MakesForm, RefusesForm}
+use Rattle.ir_print.specs.declared.format.ValueSort.TheVariants as sorts
 use Rattle.kit.specs.Says.{says, values, said_in, numbered, refused_type, refused_attribute, refused_operation, refused_in, refused_by, result_types, result_types_in, result_types_by, canonical}
 
 -- the number of a kind of types
@@ -126,10 +127,10 @@ module _ {D : Type 0} where
 
 -- what is made of the parts of an attribute, of the kind with a number
 pub attribute_made : {D : Type 0} (kind : KitAttrKind) (parts : List (Part D KitOp KitAttr KitType)) (old new : List KitType) (r : Result KitAttr MakeFault) →
-    ((ps : Pieces) → ShowsParts says old parts ps → IfOk r (λ attr. (refused_attribute 0 ps ≡ None) × ShowsAttribute says new attr (node (attribute_of_kind 0) (canonical 0 ps)))) →
+    ((ps : Pieces) → ShowsParts says old parts ps → IfOk r (λ attr. (refused_attribute 0 ps ≡ None) × ShowsAttribute says new attr (node (value_of_kind sorts.Attribute 0) (canonical 0 ps)))) →
     IfOk r (made.MakesAttribute says values read_attrs kind old new parts)
 attribute_made kind parts old new (Ok attr) h = λ n ps at s.
-    subst (λ (k : ℕ). (refused_attribute k ps ≡ None) × ShowsAttribute says new attr (node (attribute_of_kind k) (canonical k ps))) (attr_number n kind at).1 (h ps s)
+    subst (λ (k : ℕ). (refused_attribute k ps ≡ None) × ShowsAttribute says new attr (node (value_of_kind sorts.Attribute k) (canonical k ps))) (attr_number n kind at).1 (h ps s)
 attribute_made kind parts old new (Err fault) h = tt
 
 pub attribute_refused : {D : Type 0} (kind : KitAttrKind) (parts : List (Part D KitOp KitAttr KitType)) (old : List KitType) (i : ℕ) →

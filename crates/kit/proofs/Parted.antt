@@ -12,8 +12,8 @@ use Rattle.ir_names.specs.Identifier.{text_of}
 use Rattle.ir_names.specs.Tree.{Trees, node, no_tree, a_tree}
 use Rattle.ir_print.specs.declared.format.Part.{Part}
 use Rattle.ir_print.specs.declared.format.Part.TheVariants as part
-use Rattle.ir_print.specs.Pieces.{ValueTree, Pieces}
-use Rattle.ir_print.specs.Shown.{Said, said_type, said_attribute, said_list, said_item, said_region, said_name, said_operands, said_successor, leaf, ShowsAll, ShowsPart, ShowsParts, ShowsMember, ShowsMembers, ShowsKey}
+use Rattle.ir_print.specs.Pieces.{name, ValueTree, Pieces}
+use Rattle.ir_print.specs.Shown.{Said, said_type, said_attribute, said_list, said_item, said_region, said_leaf, said_operands, said_successor, alone, ShowsAll, ShowsPart, ShowsParts, ShowsMember, ShowsMembers, ShowsKey}
 use Rattle.kit_ops.specs.declared.kinds.KitOp.{KitOp}
 use Rattle.kit_ops.specs.Keys.{symbol_name, function_type, constant_value, callee, callee_type, segment_sizes}
 use Rattle.ir_program.specs.Program.{Program, TypedValue, OperationView, operation_at, results_at, type_in}
@@ -34,6 +34,7 @@ use Rattle.kit_ops.specs.declared.attributes.KitAttr.TheVariants as attrs
 use Rattle.kit.specs.Parts.{IsTypeList, AreModuleParts, AreFunctionParts, AreCallParts, edge_parts, condition_parts}
 use Rattle.kit.specs.Says.{says, one, two, types_said, said_in, said_of_operation, said_of_module, said_of_function, said_of_constant, said_of_pair, pair_said, said_of_call, call_said, said_of_condition}
 use Rattle.kit.specs.Readable.{only_if, is_numbered, constant_says, condition_says}
+use Rattle.ir_print.specs.declared.format.LeafValue.TheVariants as read
 use Rattle.kit.specs.Seen.{SeenPiece, seen, none_seen, first_seen, one_seen, two_seen, three_seen}
 
 -- what follows for each value follows for that of a result
@@ -88,22 +89,22 @@ said_as kind form entries count tys o n us k f es cs ts e =
 
 module _ (D : Type 0) (types : List KitType) where
   -- the part of what is said shows its piece
-  type_parted : (ty : TypeHandle) (t : ValueTree) → SeenPiece says types (leaf (said_type ty)) t → ShowsPart {D = D} says types (part.Type ty) t
+  type_parted : (ty : TypeHandle) (t : ValueTree) → SeenPiece says types (alone (said_type ty)) t → ShowsPart {D = D} says types (part.Type ty) t
   type_parted ty t s = subst (λ (v : ValueTree). ShowsPart {D = D} says types (part.Type ty) v) (sym s.2) (ty, refl, s.3)
 
-  name_parted : (id copy : Identifier) (t : ValueTree) → text_of copy ≡ text_of id → SeenPiece says types (leaf (said_name (text_of id))) t → ShowsPart {D = D} says types (part.Name copy) t
-  name_parted id copy t e s = subst (λ (v : ValueTree). ShowsPart {D = D} says types (part.Name copy) v) (sym s.1) (copy, refl, e)
+  name_parted : (id copy : Identifier) (t : ValueTree) → text_of copy ≡ text_of id → SeenPiece says types (alone (said_leaf (name (text_of id)))) t → ShowsPart {D = D} says types (part.Leaf (read.Name copy)) t
+  name_parted id copy t e s = subst (λ (v : ValueTree). ShowsPart {D = D} says types (part.Leaf (read.Name copy)) v) (sym s.1) (read.Name copy, refl, e)
 
-  region_parted : (t : ValueTree) → SeenPiece says types (leaf said_region) t → ShowsPart {D = D} says types part.Region t
+  region_parted : (t : ValueTree) → SeenPiece says types (alone said_region) t → ShowsPart {D = D} says types part.Region t
   region_parted t s = subst (λ (v : ValueTree). ShowsPart {D = D} says types part.Region v) (sym s.1) refl
 
-  attribute_parted : (attr : KitAttr) (t : ValueTree) → SeenPiece says types (leaf (said_attribute attr)) t → ShowsPart {D = D} says types (part.Attribute attr) t
+  attribute_parted : (attr : KitAttr) (t : ValueTree) → SeenPiece says types (alone (said_attribute attr)) t → ShowsPart {D = D} says types (part.Attribute attr) t
   attribute_parted attr t s = subst (λ (v : ValueTree). ShowsPart {D = D} says types (part.Attribute attr) v) (sym s.2) (attr, refl, s.3)
 
-  operands_parted : (n : ℕ) (t : ValueTree) → SeenPiece says types (leaf (said_operands n)) t → ShowsPart {D = D} says types (part.Operands n) t
+  operands_parted : (n : ℕ) (t : ValueTree) → SeenPiece says types (alone (said_operands n)) t → ShowsPart {D = D} says types (part.Operands n) t
   operands_parted n t s = subst (λ (v : ValueTree). ShowsPart {D = D} says types (part.Operands n) v) (sym s.1) refl
 
-  successor_parted : (n : ℕ) (t : ValueTree) → SeenPiece says types (leaf (said_successor n)) t → ShowsPart {D = D} says types (part.Successor n) t
+  successor_parted : (n : ℕ) (t : ValueTree) → SeenPiece says types (alone (said_successor n)) t → ShowsPart {D = D} says types (part.Successor n) t
   successor_parted n t s = subst (λ (v : ValueTree). ShowsPart {D = D} says types (part.Successor n) v) (sym s.1) refl
 
 module _ {D : Type 0} (types : List KitType) where
@@ -114,9 +115,9 @@ module _ {D : Type 0} (types : List KitType) where
   type_alone ty = part.Type ty ∷ []
 
   -- the members of a list of types
-  member_parted : (ty : TypeHandle) (ps : List (Part D KitOp KitAttr KitType)) (t : ValueTree) → ps ≡ type_alone ty → SeenPiece says types (node said_item (one (leaf (said_type ty)))) t → ShowsMember says types ps t
+  member_parted : (ty : TypeHandle) (ps : List (Part D KitOp KitAttr KitType)) (t : ValueTree) → ps ≡ type_alone ty → SeenPiece says types (node said_item (one (alone (said_type ty)))) t → ShowsMember says types ps t
   member_parted ty ps t e s =
-      let only_piece = one_seen says types (leaf (said_type ty)) s.0 s.2 in
+      let only_piece = one_seen says types (alone (said_type ty)) s.0 s.2 in
       let shown : ShowsParts says types (type_alone ty) s.0 = subst (λ (us : Pieces). ShowsParts says types (type_alone ty) us) (sym only_piece.1) (type_parted D types ty only_piece.0 only_piece.2, tt) in
       subst (λ (v : ValueTree). ShowsMember says types ps v) (sym s.1) (subst (λ qs. ShowsParts says types qs s.0) (sym e) shown)
 
@@ -127,9 +128,9 @@ module _ {D : Type 0} (types : List KitType) where
   members_parted (ty ∷ tys) [] ts e h = absurd cc
   members_parted (ty ∷ tys) (m ∷ ms) no_tree e h = absurd h
   members_parted (ty ∷ tys) (m ∷ ms) (a_tree t ts) e h =
-      let first = first_seen says types (node said_item (one (leaf (said_type ty)))) (types_said tys) (a_tree t ts) h in
+      let first = first_seen says types (node said_item (one (alone (said_type ty)))) (types_said tys) (a_tree t ts) h in
       let same = first_same (items_of m) (type_alone ty) (map items_of ms) (map type_alone tys) e in
-      (member_parted ty m.items t same.0 (seen says types (node said_item (one (leaf (said_type ty)))) t h.0), members_parted tys ms ts same.1 h.1)
+      (member_parted ty m.items t same.0 (seen says types (node said_item (one (alone (said_type ty)))) t h.0), members_parted tys ms ts same.1 h.1)
 
   list_parted : (tys : List TypeHandle) (p : Part D KitOp KitAttr KitType) (t : ValueTree) → IsTypeList tys p → SeenPiece says types (node said_list (types_said tys)) t → ShowsPart says types p t
   list_parted tys p t is s = subst (λ (v : ValueTree). ShowsPart says types p v) (sym s.1) (is.0, is.1, members_parted tys is.0.items s.0 is.2 s.2)
@@ -145,20 +146,20 @@ module _ {D : Type 0} (types : List KitType) where
   -- what a module, a function and a constant say
   module_parted : (o : Option KitAttr) (parts : List (Part D KitOp KitAttr KitType)) (us : Trees (Said KitAttr)) (ps : Pieces) → AreModuleParts o parts → said_of_module o ≡ Some us → ShowsAll says types us ps → ShowsParts says types parts ps
   module_parted (Some (attrs.Identifier id)) parts us ps are e h =
-      let shown = subst (λ (vs : Trees (Said KitAttr)). ShowsAll says types vs ps) (sym (same_Some (two (leaf (said_name (text_of id))) (leaf said_region)) us e)) h in
-      let pieces = two_seen says types (leaf (said_name (text_of id))) (leaf said_region) ps shown in
-      let is : parts ≡ part.Name are.1.0 ∷ part.Region ∷ [] = are.2 ∙ ap (λ qs. qs ++ part.Region ∷ []) are.1.2 in
-      subst (λ qs. ShowsParts says types qs ps) (sym is) (subst (λ (qs : Pieces). ShowsParts {D = D} says types (part.Name are.1.0 ∷ part.Region ∷ []) qs) (sym pieces.2)
+      let shown = subst (λ (vs : Trees (Said KitAttr)). ShowsAll says types vs ps) (sym (same_Some (two (alone (said_leaf (name (text_of id)))) (alone said_region)) us e)) h in
+      let pieces = two_seen says types (alone (said_leaf (name (text_of id)))) (alone said_region) ps shown in
+      let is : parts ≡ part.Leaf (read.Name are.1.0) ∷ part.Region ∷ [] = are.2 ∙ ap (λ qs. qs ++ part.Region ∷ []) are.1.2 in
+      subst (λ qs. ShowsParts says types qs ps) (sym is) (subst (λ (qs : Pieces). ShowsParts {D = D} says types (part.Leaf (read.Name are.1.0) ∷ part.Region ∷ []) qs) (sym pieces.2)
       (name_parted D types id are.1.0 pieces.0 are.1.1 pieces.3, (region_parted D types pieces.1 pieces.4, tt)))
   module_parted (Some other) parts us ps are e h = absurd (none-some us e)
   module_parted None parts us ps are e h = absurd (none-some us e)
 
   function_parted : (o p : Option KitAttr) (parts : List (Part D KitOp KitAttr KitType)) (us : Trees (Said KitAttr)) (ps : Pieces) → AreFunctionParts o p parts → said_of_function o p ≡ Some us → ShowsAll says types us ps → ShowsParts says types parts ps
   function_parted (Some (attrs.Identifier id)) (Some (attrs.«Type» ty)) parts us ps are e h =
-      let shown = subst (λ (vs : Trees (Said KitAttr)). ShowsAll says types vs ps) (sym (same_Some (a_tree (leaf (said_name (text_of id))) (two (leaf (said_type ty)) (leaf said_region))) us e)) h in
-      let pieces = three_seen says types (leaf (said_name (text_of id))) (leaf (said_type ty)) (leaf said_region) ps shown in
-      let is : parts ≡ part.Name are.1.0 ∷ part.Type ty ∷ part.Region ∷ [] = are.2 ∙ ap (λ qs. qs ++ part.Type ty ∷ part.Region ∷ []) are.1.2 in
-      subst (λ qs. ShowsParts says types qs ps) (sym is) (subst (λ (qs : Pieces). ShowsParts {D = D} says types (part.Name are.1.0 ∷ part.Type ty ∷ part.Region ∷ []) qs) (sym pieces.3)
+      let shown = subst (λ (vs : Trees (Said KitAttr)). ShowsAll says types vs ps) (sym (same_Some (a_tree (alone (said_leaf (name (text_of id)))) (two (alone (said_type ty)) (alone said_region))) us e)) h in
+      let pieces = three_seen says types (alone (said_leaf (name (text_of id)))) (alone (said_type ty)) (alone said_region) ps shown in
+      let is : parts ≡ part.Leaf (read.Name are.1.0) ∷ part.Type ty ∷ part.Region ∷ [] = are.2 ∙ ap (λ qs. qs ++ part.Type ty ∷ part.Region ∷ []) are.1.2 in
+      subst (λ qs. ShowsParts says types qs ps) (sym is) (subst (λ (qs : Pieces). ShowsParts {D = D} says types (part.Leaf (read.Name are.1.0) ∷ part.Type ty ∷ part.Region ∷ []) qs) (sym pieces.3)
       (name_parted D types id are.1.0 pieces.0 are.1.1 pieces.4, (type_parted D types ty pieces.1 pieces.5, (region_parted D types pieces.2 pieces.6, tt))))
   function_parted (Some (attrs.Identifier id)) other parts us ps are e h = absurd (none-some us e)
   function_parted other p parts us ps are e h = absurd (none-some us e)
@@ -169,7 +170,7 @@ module _ {D : Type 0} (types : List KitType) where
       let said = constant_says o tys us e in
       let attr = attrs.Integer said.value in
       let shown = subst (λ (vs : Trees (Said KitAttr)). ShowsAll says types vs ps) (sym said.says_it) h in
-      let piece = one_seen says types (leaf (said_attribute attr)) ps shown in
+      let piece = one_seen says types (alone (said_attribute attr)) ps shown in
       subst (λ qs. ShowsParts says types qs ps) (sym (are said.value said.has))
       (subst (λ (qs : Pieces). ShowsParts {D = D} says types (part.Attribute attr ∷ []) qs) (sym piece.1) (attribute_parted D types attr piece.0 piece.2, tt))
 
@@ -179,15 +180,15 @@ module _ {D : Type 0} (types : List KitType) where
   pair_parted (ty ∷ other ∷ tys) parts us ps are e h = absurd (none-some us e)
   pair_parted (ty ∷ []) parts us ps are e h =
       let shown = subst (λ (vs : Trees (Said KitAttr)). ShowsAll says types vs ps) (sym (same_Some (pair_said ty) us e)) h in
-      let pieces = three_seen says types (leaf (said_operands 1)) (leaf (said_operands 1)) (leaf (said_type ty)) ps shown in
+      let pieces = three_seen says types (alone (said_operands 1)) (alone (said_operands 1)) (alone (said_type ty)) ps shown in
       subst (λ qs. ShowsParts says types qs ps) (sym (are ty refl)) (subst (λ (qs : Pieces). ShowsParts {D = D} says types (part.Operands 1 ∷ part.Operands 1 ∷ part.Type ty ∷ []) qs) (sym pieces.3)
       (operands_parted D types 1 pieces.0 pieces.4, (operands_parted D types 1 pieces.1 pieces.5, (type_parted D types ty pieces.2 pieces.6, tt))))
 
   -- what an operation with operands says
-  operands_said_parted : (count : ℕ) (parts : List (Part D KitOp KitAttr KitType)) (us : Trees (Said KitAttr)) (ps : Pieces) → parts ≡ part.Operands count ∷ [] → ◌≡◌ {A = Option (Trees (Said KitAttr))} (Some (one (leaf (said_operands count)))) (Some us) → ShowsAll says types us ps → ShowsParts says types parts ps
+  operands_said_parted : (count : ℕ) (parts : List (Part D KitOp KitAttr KitType)) (us : Trees (Said KitAttr)) (ps : Pieces) → parts ≡ part.Operands count ∷ [] → ◌≡◌ {A = Option (Trees (Said KitAttr))} (Some (one (alone (said_operands count)))) (Some us) → ShowsAll says types us ps → ShowsParts says types parts ps
   operands_said_parted count parts us ps is e h =
-      let shown = subst (λ (vs : Trees (Said KitAttr)). ShowsAll says types vs ps) (sym (same_Some (one (leaf (said_operands count))) us e)) h in
-      let piece = one_seen says types (leaf (said_operands count)) ps shown in
+      let shown = subst (λ (vs : Trees (Said KitAttr)). ShowsAll says types vs ps) (sym (same_Some (one (alone (said_operands count))) us e)) h in
+      let piece = one_seen says types (alone (said_operands count)) ps shown in
       subst (λ qs. ShowsParts says types qs ps) (sym is) (subst (λ (qs : Pieces). ShowsParts {D = D} says types (part.Operands count ∷ []) qs) (sym piece.1) (operands_parted D types count piece.0 piece.2, tt))
 
   -- what an operation of a form says, where its parts are these
@@ -214,12 +215,12 @@ module _ {D : Type 0} (types : List KitType) where
 
   pub any_operands_parted : (entries : List (List ℕ × KitAttr)) (count : ℕ) (tys : List TypeHandle) (parts : List (Part D KitOp KitAttr KitType)) (us : Trees (Said KitAttr)) (ps : Pieces) → parts ≡ part.Operands count ∷ [] →
       said_in AnyOperands entries count tys ≡ Some us → ShowsAll says types us ps → ShowsParts says types parts ps
-  any_operands_parted entries count tys parts us ps are e h = operands_said_parted count parts us ps are (only_if (length entries == 0) (Some (one (leaf (said_operands count)))) us e).1 h
+  any_operands_parted entries count tys parts us ps are e h = operands_said_parted count parts us ps are (only_if (length entries == 0) (Some (one (alone (said_operands count)))) us e).1 h
 
   pub one_operand_parted : (entries : List (List ℕ × KitAttr)) (count : ℕ) (tys : List TypeHandle) (parts : List (Part D KitOp KitAttr KitType)) (us : Trees (Said KitAttr)) (ps : Pieces) → parts ≡ part.Operands count ∷ [] →
       said_in OneOperand entries count tys ≡ Some us → ShowsAll says types us ps → ShowsParts says types parts ps
   one_operand_parted entries count tys parts us ps are e h =
-      let said = only_if (length entries == 0 && count == 1) (Some (one (leaf (said_operands 1)))) us e in
+      let said = only_if (length entries == 0 && count == 1) (Some (one (alone (said_operands 1)))) us e in
       let one_only : count ≡ 1 = eqb-true count 1 (and_parts (length entries == 0) (count == 1) said.0).1 in
       operands_said_parted 1 parts us ps (are ∙ ap (λ (n : ℕ). part.Operands n ∷ []) one_only) said.1 h
 
@@ -227,9 +228,9 @@ module _ {D : Type 0} (types : List KitType) where
   call_said_parted : (o p : Option KitAttr) (count : ℕ) (parts : List (Part D KitOp KitAttr KitType)) (us : Trees (Said KitAttr)) (ps : Pieces) → AreCallParts o p count parts → said_of_call o p count ≡ Some us → ShowsAll says types us ps → ShowsParts says types parts ps
   call_said_parted (Some (attrs.Identifier id)) (Some (attrs.«Type» ty)) count parts us ps are e h =
       let shown = subst (λ (vs : Trees (Said KitAttr)). ShowsAll says types vs ps) (sym (same_Some (call_said (text_of id) ty count) us e)) h in
-      let pieces = three_seen says types (leaf (said_name (text_of id))) (leaf (said_operands count)) (leaf (said_type ty)) ps shown in
-      let is : parts ≡ part.Name are.1.0 ∷ part.Operands count ∷ part.Type ty ∷ [] = are.2 ∙ ap (λ qs. qs ++ part.Operands count ∷ part.Type ty ∷ []) are.1.2 in
-      subst (λ qs. ShowsParts says types qs ps) (sym is) (subst (λ (qs : Pieces). ShowsParts {D = D} says types (part.Name are.1.0 ∷ part.Operands count ∷ part.Type ty ∷ []) qs) (sym pieces.3)
+      let pieces = three_seen says types (alone (said_leaf (name (text_of id)))) (alone (said_operands count)) (alone (said_type ty)) ps shown in
+      let is : parts ≡ part.Leaf (read.Name are.1.0) ∷ part.Operands count ∷ part.Type ty ∷ [] = are.2 ∙ ap (λ qs. qs ++ part.Operands count ∷ part.Type ty ∷ []) are.1.2 in
+      subst (λ qs. ShowsParts says types qs ps) (sym is) (subst (λ (qs : Pieces). ShowsParts {D = D} says types (part.Leaf (read.Name are.1.0) ∷ part.Operands count ∷ part.Type ty ∷ []) qs) (sym pieces.3)
       (name_parted D types id are.1.0 pieces.0 are.1.1 pieces.4, (operands_parted D types count pieces.1 pieces.5, (type_parted D types ty pieces.2 pieces.6, tt))))
   call_said_parted (Some (attrs.Identifier id)) other count parts us ps are e h = absurd (none-some us e)
   call_said_parted other p count parts us ps are e h = absurd (none-some us e)
@@ -251,9 +252,9 @@ module _ {D : Type 0} (types : List KitType) where
   pub edge_parted : (entries : List (List ℕ × KitAttr)) (count : ℕ) (tys : List TypeHandle) (parts : List (Part D KitOp KitAttr KitType)) (us : Trees (Said KitAttr)) (ps : Pieces) → parts ≡ part.Successor count ∷ [] →
       said_in Edge entries count tys ≡ Some us → ShowsAll says types us ps → ShowsParts says types parts ps
   edge_parted entries count tys parts us ps is e h =
-      let said = only_if (length entries == 0) (Some (one (leaf (said_successor count)))) us e in
-      let shown = subst (λ (vs : Trees (Said KitAttr)). ShowsAll says types vs ps) (sym (same_Some (one (leaf (said_successor count))) us said.1)) h in
-      let piece = one_seen says types (leaf (said_successor count)) ps shown in
+      let said = only_if (length entries == 0) (Some (one (alone (said_successor count)))) us e in
+      let shown = subst (λ (vs : Trees (Said KitAttr)). ShowsAll says types vs ps) (sym (same_Some (one (alone (said_successor count))) us said.1)) h in
+      let piece = one_seen says types (alone (said_successor count)) ps shown in
       subst (λ qs. ShowsParts says types qs ps) (sym is) (subst (λ (qs : Pieces). ShowsParts {D = D} says types (part.Successor count ∷ []) qs) (sym piece.1) (successor_parted D types count piece.0 piece.2, tt))
 
   -- what a conditional branch says
@@ -266,7 +267,7 @@ module _ {D : Type 0} (types : List KitType) where
       let a = sizes.first in
       let b = sizes.second in
       let shown = subst (λ (vs : Trees (Said KitAttr)). ShowsAll says types vs ps) (sym sizes.says_it) h in
-      let pieces = three_seen says types (leaf (said_operands 1)) (leaf (said_successor a)) (leaf (said_successor b)) ps shown in
+      let pieces = three_seen says types (alone (said_operands 1)) (alone (said_successor a)) (alone (said_successor b)) ps shown in
       let parts_are : parts ≡ part.Operands 1 ∷ part.Successor a ∷ part.Successor b ∷ [] = is ∙ (ap condition_parts condition.has_sizes ∙ ap edge_parts sizes.are) in
       subst (λ qs. ShowsParts says types qs ps) (sym parts_are) (subst (λ (qs : Pieces). ShowsParts {D = D} says types (part.Operands 1 ∷ part.Successor a ∷ part.Successor b ∷ []) qs) (sym pieces.3)
       (operands_parted D types 1 pieces.0 pieces.4, (successor_parted D types a pieces.1 pieces.5, (successor_parted D types b pieces.2 pieces.6, tt))))

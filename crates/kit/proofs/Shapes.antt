@@ -10,12 +10,15 @@ use Rattle.ir_names.specs.Identifier.{text_of}
 use Rattle.ir_names.specs.Tree.{node, no_tree, a_tree}
 use Rattle.ir_print.specs.declared.format.Number.{Number}
 use Rattle.ir_print.specs.declared.format.Part.{Part}
-use Rattle.ir_print.specs.declared.format.Part.TheVariants.{outs-List, outs-Type, outs-Attribute, outs-Operands, outs-Successor, outs-Region, outs-Name, outs-Number, outs-Width}
+use Rattle.ir_print.specs.declared.format.Part.TheVariants.{outs-List, outs-Type, outs-Attribute, outs-Operands, outs-Successor, outs-Region, outs-Leaf}
 use Rattle.ir_print.specs.declared.format.Part.TheVariants as part
-use Rattle.ir_print.specs.Pieces.{Piece, type_of_kind, attribute_of_kind, list, item, operands, successor, region, name, number, width, ValueTree, Pieces}
-use Rattle.ir_print.specs.Shown.{Saying, IsNumber, IsWidth, ShowsType, ShowsAttribute, ShowsPart, ShowsParts, ShowsMembers}
+use Rattle.ir_print.specs.Pieces.{Leaf, value_of_kind, list, item, operands, successor, region, leaf, name, number, width, ValueTree, Pieces}
+use Rattle.ir_print.specs.Shown.{Saying, IsNumber, IsWidth, IsLeaf, ShowsType, ShowsAttribute, ShowsPart, ShowsParts, ShowsMembers}
 use Rattle.kit_ops.specs.declared.types.IntegerType.{IntegerType}
 use Rattle.kit.specs.Parts.{number_part, integer_part, type_part, name_part, region_part, attribute_part, operands_part, successor_part, is_one_operand, list_part}
+use Rattle.ir_print.specs.declared.format.LeafValue.{LeafValue}
+use Rattle.ir_print.specs.declared.format.LeafValue.TheVariants as read
+use Rattle.ir_print.specs.declared.format.ValueSort.TheVariants as sorts
 use Rattle.kit.specs.Says.{is_small_width, is_type, is_attribute, is_name, is_region, are_operands, is_operand, is_edge, is_one, are_two, are_three}
 
 either_false : (b : Bool) → (b && false) ≡ false
@@ -47,14 +50,8 @@ module _ {D K A T : Type 0} where
   no_list-Region : list_part {D = D} {A = K} {K = A} {T = T} part.Region ≡ None
   no_list-Region = rw outs-Region refl
 
-  no_list-Name : (x : Identifier) → list_part {D = D} {A = K} {K = A} {T = T} (part.Name x) ≡ None
-  no_list-Name x = rw outs-Name refl
-
-  no_list-Number : (x : Option Number) → list_part {D = D} {A = K} {K = A} {T = T} (part.Number x) ≡ None
-  no_list-Number x = rw outs-Number refl
-
-  no_list-Width : (s : Signedness) (x : Option ℕ) → list_part {D = D} {A = K} {K = A} {T = T} (part.Width s x) ≡ None
-  no_list-Width s x = rw outs-Width refl
+  no_list-Leaf : (x : LeafValue) → list_part {D = D} {A = K} {K = A} {T = T} (part.Leaf x) ≡ None
+  no_list-Leaf x = rw outs-Leaf refl
 
 number_bits : (b : Bool) (m : ℕ) (o : Option Number) (x : Number) → o ≡ Some x → IsNumber o b m → number b m ≡ number x.is_negative x.magnitude
 number_bits b m (Some n) x e h = let same : n ≡ x = cc in ap (λ (c : Bool). number c m) (sym h.0 ∙ ap (λ (k : Number). k.is_negative) same) ∙ ap (λ (k : ℕ). number x.is_negative k) (sym h.1 ∙ ap (λ (k : Number). k.magnitude) same)
@@ -67,244 +64,249 @@ width_bits : (sign : Signedness) (bits : ℕ) (o : Option ℕ) (x : IntegerType)
 width_bits sign bits (Some w) x e h = let same : record { signedness = sign; width = w } ≡ x = cc in ap (λ (t : IntegerType). width t.signedness bits) same ∙ ap (λ (b : ℕ). width x.signedness b) (sym h ∙ ap (λ (t : IntegerType). t.width) same)
 width_bits sign bits None x e h = cc
 
-pub wide : (sign : Signedness) (bits : ℕ) (o : Option ℕ) → of_width sign o ≡ None → IsWidth o bits → 2 ^ 32 ≤ bits
+wide : (sign : Signedness) (bits : ℕ) (o : Option ℕ) → of_width sign o ≡ None → IsWidth o bits → 2 ^ 32 ≤ bits
 wide sign bits (Some w) e h = cc
 wide sign bits None e h = h
 
+-- ---- leaves
+
+module _ {D K A T : Type 0} where
+  name_leaf : (p : Part D K A T) (l : LeafValue) (x : Leaf) (id : Identifier) → p ≡ part.Leaf l → name_part p ≡ Some id → IsLeaf l x → (cs : List ℕ) × (x ≡ name cs) × (text_of id ≡ cs)
+  name_leaf p (read.Name i) (name cs) id q e h =
+      let f : Some i ≡ Some id = sym (ap name_part q) ∙ e in let same : id ≡ i = cc in (cs, refl, ap text_of same ∙ h)
+  name_leaf p (read.Name i) (number b m) id q e h = absurd h
+  name_leaf p (read.Name i) (width sign bits) id q e h = absurd h
+  name_leaf p (read.Number o) x id q e h = none_some id (sym (ap name_part q) ∙ e)
+  name_leaf p (read.Width sign o) x id q e h = none_some id (sym (ap name_part q) ∙ e)
+
+  no_name : (p : Part D K A T) (l : LeafValue) (cs : List ℕ) → p ≡ part.Leaf l → name_part p ≡ None → IsLeaf l (name cs) → ⊥
+  no_name p (read.Name i) cs q e h = none_some i (sym e ∙ ap name_part q)
+  no_name p (read.Number o) cs q e h = h
+  no_name p (read.Width sign o) cs q e h = h
+
+  number_leaf : (p : Part D K A T) (l : LeafValue) (x : Leaf) (n : Number) → p ≡ part.Leaf l → number_part p ≡ Some n → IsLeaf l x → x ≡ number n.is_negative n.magnitude
+  number_leaf p (read.Number o) (number b m) n q e h = number_bits b m o n (sym (ap number_part q) ∙ e) h
+  number_leaf p (read.Number o) (name cs) n q e h = absurd h
+  number_leaf p (read.Number o) (width sign bits) n q e h = absurd h
+  number_leaf p (read.Name i) x n q e h = none_some n (sym (ap number_part q) ∙ e)
+  number_leaf p (read.Width sign o) x n q e h = none_some n (sym (ap number_part q) ∙ e)
+
+  pub number_none : (p : Part D K A T) (l : LeafValue) (b : Bool) (m : ℕ) → p ≡ part.Leaf l → number_part p ≡ None → IsLeaf l (number b m) → (o : Option Number) × (o ≡ None) × IsNumber o b m
+  number_none p (read.Number o) b m q e h = (o, sym (ap number_part q) ∙ e, h)
+  number_none p (read.Name i) b m q e h = absurd h
+  number_none p (read.Width sign o) b m q e h = absurd h
+
+  width_leaf : (p : Part D K A T) (l : LeafValue) (x : Leaf) (i : IntegerType) → p ≡ part.Leaf l → integer_part p ≡ Some i → IsLeaf l x → x ≡ width i.signedness i.width
+  width_leaf p (read.Width s o) (width sign bits) i q e h =
+      ap (λ (z : Signedness). width z bits) (sym h.0) ∙ width_bits s bits o i (sym (ap integer_part q) ∙ e) h.1
+  width_leaf p (read.Width s o) (name cs) i q e h = absurd h
+  width_leaf p (read.Width s o) (number b m) i q e h = absurd h
+  width_leaf p (read.Name id) x i q e h = none_some i (sym (ap integer_part q) ∙ e)
+  width_leaf p (read.Number o) x i q e h = none_some i (sym (ap integer_part q) ∙ e)
+
+  pub wide_leaf : (p : Part D K A T) (l : LeafValue) (sign : Signedness) (bits : ℕ) → p ≡ part.Leaf l → integer_part p ≡ None → IsLeaf l (width sign bits) → 2 ^ 32 ≤ bits
+  wide_leaf p (read.Width s o) sign bits q e h = wide s bits o (sym (ap integer_part q) ∙ e) h.1
+  wide_leaf p (read.Name id) sign bits q e h = absurd h
+  wide_leaf p (read.Number o) sign bits q e h = absurd h
+
 module _ {D K A T : Type 0} (says : Saying K A T) (types : List T) where
   -- a name is the piece that names it
-  pub name_shown : (p : Part D K A T) (x : Identifier) (t : ValueTree) → name_part p ≡ Some x → ShowsPart says types p t → (cs : List ℕ) × (ts : Pieces) × (t ≡ node (name cs) ts) × (text_of x ≡ cs)
-  name_shown p x (node (type_of_kind n) ts) e h = let f = ap name_part h.1 in cc
-  name_shown p x (node (attribute_of_kind n) ts) e h = let f = ap name_part h.1 in cc
+  pub name_shown : (p : Part D K A T) (x : Identifier) (t : ValueTree) → name_part p ≡ Some x → ShowsPart says types p t → (cs : List ℕ) × (ts : Pieces) × (t ≡ node (leaf (name cs)) ts) × (text_of x ≡ cs)
+  name_shown p x (node (value_of_kind sorts.«Type» n) ts) e h = let f = ap name_part h.1 in cc
+  name_shown p x (node (value_of_kind sorts.Attribute n) ts) e h = let f = ap name_part h.1 in cc
   name_shown p x (node list ts) e h = let f = ap name_part h.1 in cc
   name_shown p x (node item ts) e h = absurd h
   name_shown p x (node (operands n) ts) e h = let f = ap name_part h in cc
   name_shown p x (node (successor n) ts) e h = let f = ap name_part h in cc
   name_shown p x (node region ts) e h = let f = ap name_part h in cc
-  name_shown p x (node (name cs) ts) e h = let f = ap name_part h.1 in let same : x ≡ h.0 = cc in (cs, ts, refl, ap text_of same ∙ h.2)
-  name_shown p x (node (number b m) ts) e h = let f = ap name_part h.1 in cc
-  name_shown p x (node (width sign bits) ts) e h = let f = ap name_part h.1 in cc
+  name_shown p x (node (leaf l) ts) e h =
+      let named = name_leaf p h.0 l x h.1 e h.2 in
+      (named.0, ts, ap (λ (k : Leaf). node (leaf k) ts) named.1, named.2)
 
   -- what is no name is no such piece
   pub not_name : (p : Part D K A T) (t : ValueTree) → name_part p ≡ None → ShowsPart says types p t → is_name t ≡ false
-  not_name p (node (type_of_kind n) ts) e h = refl
-  not_name p (node (attribute_of_kind n) ts) e h = refl
+  not_name p (node (value_of_kind sort n) ts) e h = refl
   not_name p (node list ts) e h = refl
   not_name p (node item ts) e h = refl
   not_name p (node (operands n) ts) e h = refl
   not_name p (node (successor n) ts) e h = refl
   not_name p (node region ts) e h = refl
-  not_name p (node (name cs) ts) e h = let f = ap name_part h.1 in cc
-  not_name p (node (number b m) ts) e h = refl
-  not_name p (node (width sign bits) ts) e h = refl
+  not_name p (node (leaf (name cs)) ts) e h = absurd (no_name p h.0 cs h.1 e h.2)
+  not_name p (node (leaf (number b m)) ts) e h = refl
+  not_name p (node (leaf (width sign bits)) ts) e h = refl
 
   -- a type is the piece of what its handle stands for
-  pub type_shown : (p : Part D K A T) (x : TypeHandle) (t : ValueTree) → type_part p ≡ Some x → ShowsPart says types p t → (n : ℕ) × (ts : Pieces) × (t ≡ node (type_of_kind n) ts) × ShowsType says types x (node (type_of_kind n) ts)
-  type_shown p x (node (type_of_kind n) ts) e h = let f = ap type_part h.1 in let same : h.0 ≡ x = cc in (n, ts, refl, subst (λ (ty : TypeHandle). ShowsType says types ty (node (type_of_kind n) ts)) same h.2)
-  type_shown p x (node (attribute_of_kind n) ts) e h = let f = ap type_part h.1 in cc
+  pub type_shown : (p : Part D K A T) (x : TypeHandle) (t : ValueTree) → type_part p ≡ Some x → ShowsPart says types p t → (n : ℕ) × (ts : Pieces) × (t ≡ node (value_of_kind sorts.«Type» n) ts) × ShowsType says types x (node (value_of_kind sorts.«Type» n) ts)
+  type_shown p x (node (value_of_kind sorts.«Type» n) ts) e h = let f = ap type_part h.1 in let same : h.0 ≡ x = cc in (n, ts, refl, subst (λ (ty : TypeHandle). ShowsType says types ty (node (value_of_kind sorts.«Type» n) ts)) same h.2)
+  type_shown p x (node (value_of_kind sorts.Attribute n) ts) e h = let f = ap type_part h.1 in cc
   type_shown p x (node list ts) e h = let f = ap type_part h.1 in cc
   type_shown p x (node item ts) e h = absurd h
   type_shown p x (node (operands n) ts) e h = let f = ap type_part h in cc
   type_shown p x (node (successor n) ts) e h = let f = ap type_part h in cc
   type_shown p x (node region ts) e h = let f = ap type_part h in cc
-  type_shown p x (node (name cs) ts) e h = let f = ap type_part h.1 in cc
-  type_shown p x (node (number b m) ts) e h = let f = ap type_part h.1 in cc
-  type_shown p x (node (width sign bits) ts) e h = let f = ap type_part h.1 in cc
+  type_shown p x (node (leaf l) ts) e h = let f = ap type_part h.1 in cc
 
   -- what is no type is no such piece
   pub not_type : (p : Part D K A T) (t : ValueTree) → type_part p ≡ None → ShowsPart says types p t → is_type t ≡ false
-  not_type p (node (type_of_kind n) ts) e h = let f = ap type_part h.1 in cc
-  not_type p (node (attribute_of_kind n) ts) e h = refl
+  not_type p (node (value_of_kind sorts.«Type» n) ts) e h = let f = ap type_part h.1 in cc
+  not_type p (node (value_of_kind sorts.Attribute n) ts) e h = refl
   not_type p (node list ts) e h = refl
   not_type p (node item ts) e h = refl
   not_type p (node (operands n) ts) e h = refl
   not_type p (node (successor n) ts) e h = refl
   not_type p (node region ts) e h = refl
-  not_type p (node (name cs) ts) e h = refl
-  not_type p (node (number b m) ts) e h = refl
-  not_type p (node (width sign bits) ts) e h = refl
+  not_type p (node (leaf x) ts) e h = refl
 
   -- a region is that piece
   pub region_shown : (p : Part D K A T) (x : Unit {0}) (t : ValueTree) → region_part p ≡ Some x → ShowsPart says types p t → (ts : Pieces) × (t ≡ node region ts)
-  region_shown p x (node (type_of_kind n) ts) e h = let f = ap region_part h.1 in cc
-  region_shown p x (node (attribute_of_kind n) ts) e h = let f = ap region_part h.1 in cc
+  region_shown p x (node (value_of_kind sorts.«Type» n) ts) e h = let f = ap region_part h.1 in cc
+  region_shown p x (node (value_of_kind sorts.Attribute n) ts) e h = let f = ap region_part h.1 in cc
   region_shown p x (node list ts) e h = let f = ap region_part h.1 in cc
   region_shown p x (node item ts) e h = absurd h
   region_shown p x (node (operands n) ts) e h = let f = ap region_part h in cc
   region_shown p x (node (successor n) ts) e h = let f = ap region_part h in cc
   region_shown p x (node region ts) e h = (ts, refl)
-  region_shown p x (node (name cs) ts) e h = let f = ap region_part h.1 in cc
-  region_shown p x (node (number b m) ts) e h = let f = ap region_part h.1 in cc
-  region_shown p x (node (width sign bits) ts) e h = let f = ap region_part h.1 in cc
+  region_shown p x (node (leaf l) ts) e h = let f = ap region_part h.1 in cc
 
   -- what is no region is no such piece
   pub not_region : (p : Part D K A T) (t : ValueTree) → region_part p ≡ None → ShowsPart says types p t → is_region t ≡ false
-  not_region p (node (type_of_kind n) ts) e h = refl
-  not_region p (node (attribute_of_kind n) ts) e h = refl
+  not_region p (node (value_of_kind sort n) ts) e h = refl
   not_region p (node list ts) e h = refl
   not_region p (node item ts) e h = refl
   not_region p (node (operands n) ts) e h = refl
   not_region p (node (successor n) ts) e h = refl
   not_region p (node region ts) e h = let f = ap region_part h in cc
-  not_region p (node (name cs) ts) e h = refl
-  not_region p (node (number b m) ts) e h = refl
-  not_region p (node (width sign bits) ts) e h = refl
+  not_region p (node (leaf x) ts) e h = refl
 
   -- an attribute is the piece of what it says
-  pub attribute_shown : (p : Part D K A T) (x : A) (t : ValueTree) → attribute_part p ≡ Some x → ShowsPart says types p t → (n : ℕ) × (ts : Pieces) × (t ≡ node (attribute_of_kind n) ts) × ShowsAttribute says types x (node (attribute_of_kind n) ts)
-  attribute_shown p x (node (type_of_kind n) ts) e h = let f = ap attribute_part h.1 in cc
-  attribute_shown p x (node (attribute_of_kind n) ts) e h = let f = ap attribute_part h.1 in let same : h.0 ≡ x = cc in (n, ts, refl, subst (λ (a : A). ShowsAttribute says types a (node (attribute_of_kind n) ts)) same h.2)
+  pub attribute_shown : (p : Part D K A T) (x : A) (t : ValueTree) → attribute_part p ≡ Some x → ShowsPart says types p t → (n : ℕ) × (ts : Pieces) × (t ≡ node (value_of_kind sorts.Attribute n) ts) × ShowsAttribute says types x (node (value_of_kind sorts.Attribute n) ts)
+  attribute_shown p x (node (value_of_kind sorts.«Type» n) ts) e h = let f = ap attribute_part h.1 in cc
+  attribute_shown p x (node (value_of_kind sorts.Attribute n) ts) e h = let f = ap attribute_part h.1 in let same : h.0 ≡ x = cc in (n, ts, refl, subst (λ (a : A). ShowsAttribute says types a (node (value_of_kind sorts.Attribute n) ts)) same h.2)
   attribute_shown p x (node list ts) e h = let f = ap attribute_part h.1 in cc
   attribute_shown p x (node item ts) e h = absurd h
   attribute_shown p x (node (operands n) ts) e h = let f = ap attribute_part h in cc
   attribute_shown p x (node (successor n) ts) e h = let f = ap attribute_part h in cc
   attribute_shown p x (node region ts) e h = let f = ap attribute_part h in cc
-  attribute_shown p x (node (name cs) ts) e h = let f = ap attribute_part h.1 in cc
-  attribute_shown p x (node (number b m) ts) e h = let f = ap attribute_part h.1 in cc
-  attribute_shown p x (node (width sign bits) ts) e h = let f = ap attribute_part h.1 in cc
+  attribute_shown p x (node (leaf l) ts) e h = let f = ap attribute_part h.1 in cc
 
   -- what is no attribute is no such piece
   pub not_attribute : (p : Part D K A T) (t : ValueTree) → attribute_part p ≡ None → ShowsPart says types p t → is_attribute t ≡ false
-  not_attribute p (node (type_of_kind n) ts) e h = refl
-  not_attribute p (node (attribute_of_kind n) ts) e h = let f = ap attribute_part h.1 in cc
+  not_attribute p (node (value_of_kind sorts.«Type» n) ts) e h = refl
+  not_attribute p (node (value_of_kind sorts.Attribute n) ts) e h = let f = ap attribute_part h.1 in cc
   not_attribute p (node list ts) e h = refl
   not_attribute p (node item ts) e h = refl
   not_attribute p (node (operands n) ts) e h = refl
   not_attribute p (node (successor n) ts) e h = refl
   not_attribute p (node region ts) e h = refl
-  not_attribute p (node (name cs) ts) e h = refl
-  not_attribute p (node (number b m) ts) e h = refl
-  not_attribute p (node (width sign bits) ts) e h = refl
+  not_attribute p (node (leaf x) ts) e h = refl
 
   -- operands are the piece of their number
   pub operands_shown : (p : Part D K A T) (x : ℕ) (t : ValueTree) → operands_part p ≡ Some x → ShowsPart says types p t → (ts : Pieces) × (t ≡ node (operands x) ts)
-  operands_shown p x (node (type_of_kind n) ts) e h = let f = ap operands_part h.1 in cc
-  operands_shown p x (node (attribute_of_kind n) ts) e h = let f = ap operands_part h.1 in cc
+  operands_shown p x (node (value_of_kind sorts.«Type» n) ts) e h = let f = ap operands_part h.1 in cc
+  operands_shown p x (node (value_of_kind sorts.Attribute n) ts) e h = let f = ap operands_part h.1 in cc
   operands_shown p x (node list ts) e h = let f = ap operands_part h.1 in cc
   operands_shown p x (node item ts) e h = absurd h
   operands_shown p x (node (operands n) ts) e h = let f = ap operands_part h in let same : n ≡ x = cc in (ts, ap (λ (i : ℕ). node (operands i) ts) same)
   operands_shown p x (node (successor n) ts) e h = let f = ap operands_part h in cc
   operands_shown p x (node region ts) e h = let f = ap operands_part h in cc
-  operands_shown p x (node (name cs) ts) e h = let f = ap operands_part h.1 in cc
-  operands_shown p x (node (number b m) ts) e h = let f = ap operands_part h.1 in cc
-  operands_shown p x (node (width sign bits) ts) e h = let f = ap operands_part h.1 in cc
+  operands_shown p x (node (leaf l) ts) e h = let f = ap operands_part h.1 in cc
 
   -- what is no operands is no such piece
   pub not_operands : (p : Part D K A T) (t : ValueTree) → operands_part p ≡ None → ShowsPart says types p t → are_operands t ≡ false
-  not_operands p (node (type_of_kind n) ts) e h = refl
-  not_operands p (node (attribute_of_kind n) ts) e h = refl
+  not_operands p (node (value_of_kind sort n) ts) e h = refl
   not_operands p (node list ts) e h = refl
   not_operands p (node item ts) e h = refl
   not_operands p (node (operands n) ts) e h = let f = ap operands_part h in cc
   not_operands p (node (successor n) ts) e h = refl
   not_operands p (node region ts) e h = refl
-  not_operands p (node (name cs) ts) e h = refl
-  not_operands p (node (number b m) ts) e h = refl
-  not_operands p (node (width sign bits) ts) e h = refl
+  not_operands p (node (leaf x) ts) e h = refl
 
   -- an edge is the piece of the number of operands that it hands on
   pub successor_shown : (p : Part D K A T) (x : ℕ) (t : ValueTree) → successor_part p ≡ Some x → ShowsPart says types p t → (ts : Pieces) × (t ≡ node (successor x) ts)
-  successor_shown p x (node (type_of_kind n) ts) e h = let f = ap successor_part h.1 in cc
-  successor_shown p x (node (attribute_of_kind n) ts) e h = let f = ap successor_part h.1 in cc
+  successor_shown p x (node (value_of_kind sorts.«Type» n) ts) e h = let f = ap successor_part h.1 in cc
+  successor_shown p x (node (value_of_kind sorts.Attribute n) ts) e h = let f = ap successor_part h.1 in cc
   successor_shown p x (node list ts) e h = let f = ap successor_part h.1 in cc
   successor_shown p x (node item ts) e h = absurd h
   successor_shown p x (node (operands n) ts) e h = let f = ap successor_part h in cc
   successor_shown p x (node (successor n) ts) e h = let f = ap successor_part h in let same : n ≡ x = cc in (ts, ap (λ (i : ℕ). node (successor i) ts) same)
   successor_shown p x (node region ts) e h = let f = ap successor_part h in cc
-  successor_shown p x (node (name cs) ts) e h = let f = ap successor_part h.1 in cc
-  successor_shown p x (node (number b m) ts) e h = let f = ap successor_part h.1 in cc
-  successor_shown p x (node (width sign bits) ts) e h = let f = ap successor_part h.1 in cc
+  successor_shown p x (node (leaf l) ts) e h = let f = ap successor_part h.1 in cc
 
   -- what is no edge is no such piece
   pub not_successor : (p : Part D K A T) (t : ValueTree) → successor_part p ≡ None → ShowsPart says types p t → is_edge t ≡ false
-  not_successor p (node (type_of_kind n) ts) e h = refl
-  not_successor p (node (attribute_of_kind n) ts) e h = refl
+  not_successor p (node (value_of_kind sort n) ts) e h = refl
   not_successor p (node list ts) e h = refl
   not_successor p (node item ts) e h = refl
   not_successor p (node (operands n) ts) e h = refl
   not_successor p (node (successor n) ts) e h = let f = ap successor_part h in cc
   not_successor p (node region ts) e h = refl
-  not_successor p (node (name cs) ts) e h = refl
-  not_successor p (node (number b m) ts) e h = refl
-  not_successor p (node (width sign bits) ts) e h = refl
+  not_successor p (node (leaf x) ts) e h = refl
 
   -- one operand is that piece
   pub operand_shown : (p : Part D K A T) (t : ValueTree) → is_one_operand p ≡ true → ShowsPart says types p t → (ts : Pieces) × (t ≡ node (operands 1) ts)
-  operand_shown p (node (type_of_kind n) ts) e h = let f = ap is_one_operand h.1 in cc
-  operand_shown p (node (attribute_of_kind n) ts) e h = let f = ap is_one_operand h.1 in cc
+  operand_shown p (node (value_of_kind sorts.«Type» n) ts) e h = let f = ap is_one_operand h.1 in cc
+  operand_shown p (node (value_of_kind sorts.Attribute n) ts) e h = let f = ap is_one_operand h.1 in cc
   operand_shown p (node list ts) e h = let f = ap is_one_operand h.1 in cc
   operand_shown p (node item ts) e h = absurd h
   operand_shown p (node (operands n) ts) e h = (ts, ap (λ (i : ℕ). node (operands i) ts) (eqb-true n 1 (sym (ap is_one_operand h) ∙ e)))
   operand_shown p (node (successor n) ts) e h = let f = ap is_one_operand h in cc
   operand_shown p (node region ts) e h = let f = ap is_one_operand h in cc
-  operand_shown p (node (name cs) ts) e h = let f = ap is_one_operand h.1 in cc
-  operand_shown p (node (number b m) ts) e h = let f = ap is_one_operand h.1 in cc
-  operand_shown p (node (width sign bits) ts) e h = let f = ap is_one_operand h.1 in cc
+  operand_shown p (node (leaf x) ts) e h = let f = ap is_one_operand h.1 in cc
 
   -- what is not one operand is no such piece
   pub not_operand : (p : Part D K A T) (t : ValueTree) → is_one_operand p ≡ false → ShowsPart says types p t → is_operand t ≡ false
-  not_operand p (node (type_of_kind n) ts) e h = refl
-  not_operand p (node (attribute_of_kind n) ts) e h = refl
+  not_operand p (node (value_of_kind sort n) ts) e h = refl
   not_operand p (node list ts) e h = refl
   not_operand p (node item ts) e h = refl
   not_operand p (node (operands n) ts) e h = sym (ap is_one_operand h) ∙ e
   not_operand p (node (successor n) ts) e h = refl
   not_operand p (node region ts) e h = refl
-  not_operand p (node (name cs) ts) e h = refl
-  not_operand p (node (number b m) ts) e h = refl
-  not_operand p (node (width sign bits) ts) e h = refl
+  not_operand p (node (leaf x) ts) e h = refl
 
   -- a number is that piece
-  pub number_shown : (p : Part D K A T) (x : Number) (t : ValueTree) → number_part p ≡ Some x → ShowsPart says types p t → (ts : Pieces) × (t ≡ node (number x.is_negative x.magnitude) ts)
-  number_shown p x (node (type_of_kind n) ts) e h = let f = ap number_part h.1 in cc
-  number_shown p x (node (attribute_of_kind n) ts) e h = let f = ap number_part h.1 in cc
+  pub number_shown : (p : Part D K A T) (x : Number) (t : ValueTree) → number_part p ≡ Some x → ShowsPart says types p t → (ts : Pieces) × (t ≡ node (leaf (number x.is_negative x.magnitude)) ts)
+  number_shown p x (node (value_of_kind sorts.«Type» n) ts) e h = let f = ap number_part h.1 in cc
+  number_shown p x (node (value_of_kind sorts.Attribute n) ts) e h = let f = ap number_part h.1 in cc
   number_shown p x (node list ts) e h = let f = ap number_part h.1 in cc
   number_shown p x (node item ts) e h = absurd h
   number_shown p x (node (operands n) ts) e h = let f = ap number_part h in cc
   number_shown p x (node (successor n) ts) e h = let f = ap number_part h in cc
   number_shown p x (node region ts) e h = let f = ap number_part h in cc
-  number_shown p x (node (name cs) ts) e h = let f = ap number_part h.1 in cc
-  number_shown p x (node (number b m) ts) e h = (ts, ap (λ (k : Piece). node k ts) (number_bits b m h.0 x (sym (ap number_part h.1) ∙ e) h.2))
-  number_shown p x (node (width sign bits) ts) e h = let f = ap number_part h.1 in cc
+  number_shown p x (node (leaf l) ts) e h = (ts, ap (λ (k : Leaf). node (leaf k) ts) (number_leaf p h.0 l x h.1 e h.2))
 
   -- a list is the piece of its members
   pub list_shown : (p : Part D K A T) (x : Vec (Vec (Part D K A T) Global) Global) (t : ValueTree) → list_part p ≡ Some x → ShowsPart says types p t → (ts : Pieces) × (t ≡ node list ts) × ShowsMembers says types x.items ts
-  list_shown p x (node (type_of_kind n) ts) e h = none_some x (sym (no_list-Type h.0) ∙ (sym (ap list_part h.1) ∙ e))
-  list_shown p x (node (attribute_of_kind n) ts) e h = none_some x (sym (no_list-Attribute h.0) ∙ (sym (ap list_part h.1) ∙ e))
+  list_shown p x (node (value_of_kind sorts.«Type» n) ts) e h = none_some x (sym (no_list-Type h.0) ∙ (sym (ap list_part h.1) ∙ e))
+  list_shown p x (node (value_of_kind sorts.Attribute n) ts) e h = none_some x (sym (no_list-Attribute h.0) ∙ (sym (ap list_part h.1) ∙ e))
   list_shown p x (node list ts) e h = let same : h.0 ≡ x = some_same (sym (a_list h.0) ∙ (sym (ap list_part h.1) ∙ e)) in (ts, refl, subst (λ (ms : Vec (Vec (Part D K A T) Global) Global). ShowsMembers says types ms.items ts) same h.2)
   list_shown p x (node item ts) e h = absurd h
   list_shown p x (node (operands n) ts) e h = none_some x (sym (no_list-Operands n) ∙ (sym (ap list_part h) ∙ e))
   list_shown p x (node (successor n) ts) e h = none_some x (sym (no_list-Successor n) ∙ (sym (ap list_part h) ∙ e))
   list_shown p x (node region ts) e h = none_some x (sym (no_list-Region) ∙ (sym (ap list_part h) ∙ e))
-  list_shown p x (node (name cs) ts) e h = none_some x (sym (no_list-Name h.0) ∙ (sym (ap list_part h.1) ∙ e))
-  list_shown p x (node (number b m) ts) e h = none_some x (sym (no_list-Number h.0) ∙ (sym (ap list_part h.1) ∙ e))
-  list_shown p x (node (width sign bits) ts) e h = none_some x (sym (no_list-Width sign h.0) ∙ (sym (ap list_part h.1) ∙ e))
+  list_shown p x (node (leaf l) ts) e h = none_some x (sym (no_list-Leaf h.0) ∙ (sym (ap list_part h.1) ∙ e))
 
   -- an integer type is the piece of its width
-  pub width_shown : (p : Part D K A T) (x : IntegerType) (t : ValueTree) → integer_part p ≡ Some x → ShowsPart says types p t → (ts : Pieces) × (t ≡ node (width x.signedness x.width) ts)
-  width_shown p x (node (type_of_kind n) ts) e h = let f = ap integer_part h.1 in cc
-  width_shown p x (node (attribute_of_kind n) ts) e h = let f = ap integer_part h.1 in cc
+  pub width_shown : (p : Part D K A T) (x : IntegerType) (t : ValueTree) → integer_part p ≡ Some x → ShowsPart says types p t → (ts : Pieces) × (t ≡ node (leaf (width x.signedness x.width)) ts)
+  width_shown p x (node (value_of_kind sorts.«Type» n) ts) e h = let f = ap integer_part h.1 in cc
+  width_shown p x (node (value_of_kind sorts.Attribute n) ts) e h = let f = ap integer_part h.1 in cc
   width_shown p x (node list ts) e h = let f = ap integer_part h.1 in cc
   width_shown p x (node item ts) e h = absurd h
   width_shown p x (node (operands n) ts) e h = let f = ap integer_part h in cc
   width_shown p x (node (successor n) ts) e h = let f = ap integer_part h in cc
   width_shown p x (node region ts) e h = let f = ap integer_part h in cc
-  width_shown p x (node (name cs) ts) e h = let f = ap integer_part h.1 in cc
-  width_shown p x (node (number b m) ts) e h = let f = ap integer_part h.1 in cc
-  width_shown p x (node (width sign bits) ts) e h = (ts, ap (λ (k : Piece). node k ts) (width_bits sign bits h.0 x (sym (ap integer_part h.1) ∙ e) h.2))
+  width_shown p x (node (leaf l) ts) e h = (ts, ap (λ (k : Leaf). node (leaf k) ts) (width_leaf p h.0 l x h.1 e h.2))
 
   -- what is no width of less than 2^32 bits is no such piece
   pub not_width : (p : Part D K A T) (t : ValueTree) → integer_part p ≡ None → ShowsPart says types p t → is_small_width t ≡ false
-  not_width p (node (type_of_kind n) ts) e h = refl
-  not_width p (node (attribute_of_kind n) ts) e h = refl
+  not_width p (node (value_of_kind sort n) ts) e h = refl
   not_width p (node list ts) e h = refl
   not_width p (node item ts) e h = refl
   not_width p (node (operands n) ts) e h = refl
   not_width p (node (successor n) ts) e h = refl
   not_width p (node region ts) e h = refl
-  not_width p (node (name cs) ts) e h = refl
-  not_width p (node (number b m) ts) e h = refl
-  not_width p (node (width sign bits) ts) e h = let big = wide sign bits h.0 (sym (ap integer_part h.1) ∙ e) h.2 in grind (arith, nat_tests)
+  not_width p (node (leaf (name cs)) ts) e h = refl
+  not_width p (node (leaf (number b m)) ts) e h = refl
+  not_width p (node (leaf (width sign bits)) ts) e h = let big = wide_leaf p h.0 sign bits h.1 e h.2 in grind (arith, nat_tests)
 
   -- parts are as many pieces
   pub one_shown : (p : Part D K A T) (ps : Pieces) → ShowsParts says types (p ∷ []) ps → (t : ValueTree) × (ps ≡ a_tree t no_tree) × ShowsPart says types p t

@@ -9,8 +9,8 @@ use Rattle.ir_names.specs.declared.kinds.Signedness.TheVariants.{Signless, Signe
 use Rattle.ir_base.specs.contracts.types.TypeHandlePartialEq.TheImpl as of_handles
 use Rattle.ir_names.specs.contracts.kinds.SignednessPartialEq.TheImpl as of_signs
 use Rattle.ir_names.specs.Tree.{Trees, node, a_tree}
-use Rattle.ir_print.specs.Pieces.{Pieces}
-use Rattle.ir_print.specs.Shown.{Said, said_type, said_width, said_list, said_item, leaf}
+use Rattle.ir_print.specs.Pieces.{width, Pieces}
+use Rattle.ir_print.specs.Shown.{Said, said_type, said_leaf, said_list, said_item, alone}
 use Rattle.kit_ops.specs.declared.types.KitType.{KitType}
 use Rattle.kit_ops.specs.declared.types.KitType.TheVariants as keys
 use Rattle.kit_ops.specs.contracts.types.KitTypePartialEq.TheImpl as of_keys
@@ -36,7 +36,7 @@ signs Unsigned Unsigned h = refl
 
 -- what the type of integers with a sign and a width says
 abbrev width_said : Signedness → ℕ → Option (ℕ × Trees (Said KitAttr))
-width_said s w = only (nat_lt w (2 ^ 32)) (Some (0, one (leaf (said_width s w))))
+width_said s w = only (nat_lt w (2 ^ 32)) (Some (0, one (alone (said_leaf (width s w)))))
 
 -- equal integer types say the same
 integers : (i j : IntegerType) → (of_integers.ghosts).eq i j ≡ true → width_said i.signedness i.width ≡ width_said j.signedness j.width
@@ -55,7 +55,7 @@ lists [] (y ∷ ys) h = absurd (false≢true h)
 lists (x ∷ xs) [] h = absurd (false≢true h)
 lists (x ∷ xs) (y ∷ ys) h =
     let both = and_parts ((of_handles.ghosts).eq x y) (pointwise ((of_handles.ghosts).eq) xs ys) h in
-    ap (λ z. a_tree (node said_item (one (leaf (said_type z)))) (types_said xs)) (handles x y both.0) ∙ ap (λ zs. a_tree (node said_item (one (leaf (said_type y)))) zs) (lists xs ys both.1)
+    ap (λ z. a_tree (node said_item (one (alone (said_type z)))) (types_said xs)) (handles x y both.0) ∙ ap (λ zs. a_tree (node said_item (one (alone (said_type y)))) zs) (lists xs ys both.1)
 
 -- what a function type with these inputs and results says
 abbrev lists_said : Trees (Said KitAttr) → Trees (Said KitAttr) → Option (ℕ × Trees (Said KitAttr))

@@ -1,6 +1,6 @@
 -- Which kinds of `kit` can be read, in the order of their numbers, and what follows the dotted name of each: its form.
 use Rattle.std.specs.Prelude.{ℕ, suc, List, [], ◌∷◌, map, codes, Option, Some, None}
-use Rattle.ir_print.specs.Formats.{Formats, Kind, Step, Steps, no_steps, steps, word, operand, operands, successor, an_attribute, a_type, a_region, symbol_name, a_number, a_width, list_of}
+use Rattle.ir_print.specs.Formats.{Formats, Kind, Step, Steps, no_steps, steps, word, operand, operands, successor, a_value, a_region, symbol_name, a_leaf, list_of}
 use Rattle.text_dialect.specs.Ids.{dotted}
 use Rattle.kit_ops.specs.declared.kinds.KitOp.{KitOp}
 use Rattle.kit_ops.specs.declared.kinds.KitOp.TheVariants as ops
@@ -9,6 +9,8 @@ use Rattle.kit_ops.specs.declared.types.KitTypeKind.TheVariants as type_kinds
 use Rattle.kit_ops.specs.declared.attributes.KitAttrKind.{KitAttrKind}
 use Rattle.kit_ops.specs.declared.attributes.KitAttrKind.TheVariants as attr_kinds
 use Rattle.kit_ops.specs.Arithmetic.{operators, arithmetic_number, comparison_number}
+use Rattle.ir_print.specs.declared.format.LeafSort.TheVariants as leaves
+use Rattle.ir_print.specs.declared.format.ValueSort.TheVariants as sorts
 use Rattle.kit_ops.specs.Kinds.{op_names, type_names, attr_names}
 
 -- what follows the dotted name of an operation
@@ -71,14 +73,14 @@ read_attrs = attr_kinds.Integer ∷ []
 -- the steps of a form
 abbrev pub steps_in : OpForm → Steps
 steps_in NamedRegion = steps (symbol_name ∷ a_region ∷ [])
-steps_in TypedRegion = steps (symbol_name ∷ word (codes ": ") (codes ":") ∷ a_type ∷ a_region ∷ [])
-steps_in Value = steps (an_attribute ∷ [])
-steps_in TwoOperands = steps (operand ∷ word (codes ", ") (codes ",") ∷ operand ∷ word (codes ": ") (codes ":") ∷ a_type ∷ [])
+steps_in TypedRegion = steps (symbol_name ∷ word (codes ": ") (codes ":") ∷ (a_value sorts.«Type») ∷ a_region ∷ [])
+steps_in Value = steps ((a_value sorts.Attribute) ∷ [])
+steps_in TwoOperands = steps (operand ∷ word (codes ", ") (codes ",") ∷ operand ∷ word (codes ": ") (codes ":") ∷ (a_value sorts.«Type») ∷ [])
 steps_in OneOperand = steps (operand ∷ [])
 steps_in AnyOperands = steps (operands ∷ [])
 steps_in Empty = steps []
 steps_in Called = steps
-    (symbol_name ∷ word (codes "(") (codes "(") ∷ operands ∷ word (codes ")") (codes ")") ∷ word (codes ": ") (codes ":") ∷ a_type ∷ [])
+    (symbol_name ∷ word (codes "(") (codes "(") ∷ operands ∷ word (codes ")") (codes ")") ∷ word (codes ": ") (codes ":") ∷ (a_value sorts.«Type») ∷ [])
 steps_in Edge = steps (successor ∷ [])
 steps_in ConditionEdges = steps (operand ∷ word (codes ", ") (codes ",") ∷ successor ∷ word (codes ", ") (codes ",") ∷ successor ∷ [])
 
@@ -89,11 +91,11 @@ steps_of_form (Some form) = steps_in form
 
 -- types with commas between them
 abbrev pub type_list : Step
-type_list = list_of (steps (a_type ∷ [])) (codes ", ") (codes ",")
+type_list = list_of (steps ((a_value sorts.«Type») ∷ [])) (codes ", ") (codes ",")
 
 -- what follows the dotted name of a kind of types
 abbrev pub steps_of_type : KitTypeKind → Steps
-steps_of_type type_kinds.Integer = steps (a_width ∷ [])
+steps_of_type type_kinds.Integer = steps ((a_leaf leaves.Width) ∷ [])
 steps_of_type type_kinds.Function = steps
     (word (codes "<") (codes "<") ∷ word (codes "(") (codes "(") ∷ type_list ∷ word (codes ")") (codes ")") ∷ word (codes "->") (codes "->")
     ∷ word (codes "(") (codes "(") ∷ type_list ∷ word (codes ")") (codes ")") ∷ word (codes ">") (codes ">") ∷ [])
@@ -101,7 +103,7 @@ steps_of_type type_kinds.Unit = steps []
 
 -- what follows the dotted name of a kind of attributes; integers alone can be read
 abbrev pub steps_of_attr : KitAttrKind → Steps
-steps_of_attr attr_kinds.Integer = steps (word (codes "<") (codes "<") ∷ a_number ∷ word (codes ": ") (codes ":") ∷ a_width ∷ word (codes ">") (codes ">") ∷ [])
+steps_of_attr attr_kinds.Integer = steps (word (codes "<") (codes "<") ∷ (a_leaf leaves.Number) ∷ word (codes ": ") (codes ":") ∷ (a_leaf leaves.Width) ∷ word (codes ">") (codes ">") ∷ [])
 steps_of_attr _ = no_steps
 
 -- each kind, with its dotted name

@@ -19,3 +19,4 @@ pub mod Readable
 pub mod Same
 pub mod Says
 pub mod Seen
+pub mod Context

@@ -11,6 +11,7 @@ use Rattle.kit_ops.specs.declared.types.IntegerType.{IntegerType}
 use Rattle.kit_ops.specs.declared.attributes.IntegerAttr.{IntegerAttr}
 use Rattle.kit_ops.specs.declared.attributes.KitAttr.{KitAttr}
 use Rattle.kit_ops.specs.declared.attributes.KitAttr.TheVariants as attrs
+use Rattle.ir_print.specs.declared.format.LeafValue.TheVariants as read
 use Rattle.kit.specs.Numbers.{HasFittingBits, printed_number}
 
 module _ {D A K T : Type 0} where
@@ -20,9 +21,9 @@ module _ {D A K T : Type 0} where
   number_part (parts.Attribute a) = None
   number_part (parts.Type t) = None
   number_part parts.Region = None
-  number_part (parts.Name n) = None
-  number_part (parts.Number n) = n
-  number_part (parts.Width s w) = None
+  number_part (parts.Leaf (read.Name n)) = None
+  number_part (parts.Leaf (read.Number n)) = n
+  number_part (parts.Leaf (read.Width s w)) = None
   number_part other = None
 
   -- the integer type that a part is
@@ -31,9 +32,9 @@ module _ {D A K T : Type 0} where
   integer_part (parts.Attribute a) = None
   integer_part (parts.Type t) = None
   integer_part parts.Region = None
-  integer_part (parts.Name n) = None
-  integer_part (parts.Number n) = None
-  integer_part (parts.Width s w) = option_map (λ n. record { signedness = s; width = n }) w
+  integer_part (parts.Leaf (read.Name n)) = None
+  integer_part (parts.Leaf (read.Number n)) = None
+  integer_part (parts.Leaf (read.Width s w)) = option_map (λ n. record { signedness = s; width = n }) w
   integer_part other = None
 
   -- the type that a part is
@@ -42,9 +43,7 @@ module _ {D A K T : Type 0} where
   type_part (parts.Attribute a) = None
   type_part (parts.Type t) = Some t
   type_part parts.Region = None
-  type_part (parts.Name n) = None
-  type_part (parts.Number n) = None
-  type_part (parts.Width s w) = None
+  type_part (parts.Leaf x) = None
   type_part other = None
 
   -- the name that a part is
@@ -53,9 +52,9 @@ module _ {D A K T : Type 0} where
   name_part (parts.Attribute a) = None
   name_part (parts.Type t) = None
   name_part parts.Region = None
-  name_part (parts.Name n) = Some n
-  name_part (parts.Number n) = None
-  name_part (parts.Width s w) = None
+  name_part (parts.Leaf (read.Name n)) = Some n
+  name_part (parts.Leaf (read.Number n)) = None
+  name_part (parts.Leaf (read.Width s w)) = None
   name_part other = None
 
   -- whether a part is a region
@@ -64,9 +63,7 @@ module _ {D A K T : Type 0} where
   region_part (parts.Attribute a) = None
   region_part (parts.Type t) = None
   region_part parts.Region = Some tt
-  region_part (parts.Name n) = None
-  region_part (parts.Number n) = None
-  region_part (parts.Width s w) = None
+  region_part (parts.Leaf x) = None
   region_part other = None
 
   -- the attribute that a part is
@@ -75,9 +72,7 @@ module _ {D A K T : Type 0} where
   attribute_part (parts.Attribute a) = Some a
   attribute_part (parts.Type t) = None
   attribute_part parts.Region = None
-  attribute_part (parts.Name n) = None
-  attribute_part (parts.Number n) = None
-  attribute_part (parts.Width s w) = None
+  attribute_part (parts.Leaf x) = None
   attribute_part other = None
 
   -- the number of operands that a part is
@@ -86,9 +81,7 @@ module _ {D A K T : Type 0} where
   operands_part (parts.Attribute a) = None
   operands_part (parts.Type t) = None
   operands_part parts.Region = None
-  operands_part (parts.Name n) = None
-  operands_part (parts.Number n) = None
-  operands_part (parts.Width s w) = None
+  operands_part (parts.Leaf x) = None
   operands_part other = None
 
   -- the number of operands that a part, an edge, hands on
@@ -98,9 +91,7 @@ module _ {D A K T : Type 0} where
   successor_part (parts.Attribute a) = None
   successor_part (parts.Type t) = None
   successor_part parts.Region = None
-  successor_part (parts.Name n) = None
-  successor_part (parts.Number n) = None
-  successor_part (parts.Width s w) = None
+  successor_part (parts.Leaf x) = None
   successor_part other = None
 
   -- the part is one operand
@@ -109,9 +100,7 @@ module _ {D A K T : Type 0} where
   is_one_operand (parts.Attribute a) = false
   is_one_operand (parts.Type t) = false
   is_one_operand parts.Region = false
-  is_one_operand (parts.Name n) = false
-  is_one_operand (parts.Number n) = false
-  is_one_operand (parts.Width s w) = false
+  is_one_operand (parts.Leaf x) = false
   is_one_operand other = false
 
   -- the list that a layer of a part is
@@ -129,7 +118,7 @@ module _ {D A K T : Type 0} where
 
   -- the parts are the name that an attribute is, and none where it is no name
   abbrev pub AreNameParts : Option KitAttr → List (Part D A K T) → Type 0
-  AreNameParts (Some (attrs.Identifier id)) ps = (copy : Identifier) × (text_of copy ≡ text_of id) × (ps ≡ parts.Name copy ∷ [])
+  AreNameParts (Some (attrs.Identifier id)) ps = (copy : Identifier) × (text_of copy ≡ text_of id) × (ps ≡ parts.Leaf (read.Name copy) ∷ [])
   AreNameParts _ ps = ps ≡ []
 
   -- the type that an attribute is, as parts
@@ -161,7 +150,7 @@ module _ {D A K T : Type 0} where
 
   -- an integer's number, and its type
   abbrev pub integer_parts : IntegerAttr → List (Part D A K T)
-  integer_parts a = parts.Number (Some (printed_number a)) ∷ parts.Width a.integer.signedness (Some a.integer.width) ∷ []
+  integer_parts a = parts.Leaf (read.Number (Some (printed_number a))) ∷ parts.Leaf (read.Width a.integer.signedness (Some a.integer.width)) ∷ []
 
   -- an integer whose bits fit is printed as those parts
   abbrev pub HasPartsOf : KitAttr → List (Part D A K T) → Type 0

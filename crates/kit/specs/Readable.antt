@@ -13,9 +13,9 @@ use Rattle.ir_names.specs.Dictionary.{attribute_at}
 use Rattle.ir_names.specs.Identifier.{text_of}
 use Rattle.ir_names.specs.Tree.{Trees, node, no_tree, a_tree}
 use Rattle.ir_print.specs.declared.format.Number.{Number}
-use Rattle.ir_print.specs.Formats.{a_type}
-use Rattle.ir_print.specs.Pieces.{type_of_kind, attribute_of_kind, list, item, operands, successor, region, name, number, width, ValueTree, Pieces}
-use Rattle.ir_print.specs.Shown.{Said, said_type, said_attribute, said_list, said_item, said_operands, said_successor, said_region, said_name, said_number, said_width, leaf, ShowsAll, operands_said}
+use Rattle.ir_print.specs.Formats.{a_value}
+use Rattle.ir_print.specs.Pieces.{value_of_kind, list, item, operands, successor, region, leaf, name, number, width, ValueTree, Pieces}
+use Rattle.ir_print.specs.Shown.{Said, said_type, said_attribute, said_list, said_item, said_operands, said_successor, said_region, said_leaf, alone, ShowsAll, operands_said}
 use Rattle.kit_ops.specs.declared.kinds.KitOp.{KitOp}
 use Rattle.kit_ops.specs.declared.kinds.KitOp.TheVariants as ops
 use Rattle.kit_ops.specs.declared.types.KitType.{KitType}
@@ -33,6 +33,7 @@ use Rattle.kit_ops.proofs.Operators.{arithmetic_at, comparison_at}
 use Rattle.kit.specs.Forms.{OpForm, NamedRegion, TypedRegion, Value, TwoOperands, OneOperand, AnyOperands, Empty, Called, Edge, ConditionEdges, form_of, number_of, steps_in, steps_of_form, read_ops, read_types, read_attrs, formats, op_kind, type_form, attr_form}
 use Rattle.kit.specs.Says.{says, values, one, two, only, types_said, said_of_type, said_of_attribute, said_of_operation, said_of_module, said_of_function, is_same_type, said_of_constant, said_of_pair, pair_said, said_of_call, call_said, condition_said, said_of_sizes, said_of_condition, said_in, numbered, has_values, integer_said, refused_unless, is_type_member, are_types, is_number_of, refused_type, refused_attribute, refused_in, refused_by, canonical}
 use Rattle.kit.specs.Seen.{none_seen, first_seen, one_seen, two_seen, three_seen}
+use Rattle.ir_print.specs.declared.format.ValueSort.TheVariants as sorts
 use Rattle.ir_print.specs.Shapes.{parts_in, AreSaidAt, AreMembersSaidAt, IsTypeSaid, IsAttributeSaid, SaysTypes, SaysAttributes, SaysOperations}
 
 -- ---- formats
@@ -64,7 +65,7 @@ only_if false s x e = absurd (none-some x e)
 -- ---- types
 
 -- types in a list have its shape
-types_shaped : (tys : List TypeHandle) → AreMembersSaidAt (a_type ∷ []) (types_said tys)
+types_shaped : (tys : List TypeHandle) → AreMembersSaidAt ((a_value sorts.«Type») ∷ []) (types_said tys)
 types_shaped [] = tt
 types_shaped (ty ∷ tys) = ((refl, tt), types_shaped tys)
 
@@ -73,20 +74,20 @@ types_read : (context : List KitType) (tys : List TypeHandle) (ts : Pieces) → 
 types_read context [] no_tree h = refl
 types_read context [] (a_tree t ts) h = absurd h
 types_read context (ty ∷ tys) ts h =
-    let first = first_seen says context (node said_item (one (leaf (said_type ty)))) (types_said tys) ts h in
-    let member = one_seen says context (leaf (said_type ty)) first.3.0 first.3.2 in
-    let member_is : first.3.0 ≡ a_tree (node (type_of_kind member.2.0) member.2.1) no_tree = subst (λ (u : ValueTree). first.3.0 ≡ a_tree u no_tree) member.2.2 member.1 in
-    let first_is : first.0 ≡ node item (a_tree (node (type_of_kind member.2.0) member.2.1) no_tree) = subst (λ (us : Pieces). first.0 ≡ node item us) member_is first.3.1 in
+    let first = first_seen says context (node said_item (one (alone (said_type ty)))) (types_said tys) ts h in
+    let member = one_seen says context (alone (said_type ty)) first.3.0 first.3.2 in
+    let member_is : first.3.0 ≡ a_tree (node (value_of_kind sorts.«Type» member.2.0) member.2.1) no_tree = subst (λ (u : ValueTree). first.3.0 ≡ a_tree u no_tree) member.2.2 member.1 in
+    let first_is : first.0 ≡ node item (a_tree (node (value_of_kind sorts.«Type» member.2.0) member.2.1) no_tree) = subst (λ (us : Pieces). first.0 ≡ node item us) member_is first.3.1 in
     ap are_types first.2 ∙ (ap (λ (t : ValueTree). is_type_member t && are_types first.1) first_is ∙ types_read context tys first.1 first.4)
 
 -- the shape and the reading of a type's pieces
 abbrev TypeSaid : ℕ → Trees (Said KitAttr) → Type 0
 TypeSaid n us = (context : List KitType) (ps : Pieces) → ShowsAll says context us ps → IsTypeSaid says formats values n us ps
 
-integer_type_said : (s : Signedness) (w : ℕ) → nat_lt w (2 ^ 32) ≡ true → TypeSaid 0 (one (leaf (said_width s w)))
+integer_type_said : (s : Signedness) (w : ℕ) → nat_lt w (2 ^ 32) ≡ true → TypeSaid 0 (one (alone (said_leaf (width s w))))
 integer_type_said s w small context ps h =
-    let only_piece = one_seen says context (leaf (said_width s w)) ps h in
-    let is : ps ≡ a_tree (node (width s w) only_piece.2.0) no_tree = subst (λ (t : ValueTree). ps ≡ a_tree t no_tree) only_piece.2.1 only_piece.1 in
+    let only_piece = one_seen says context (alone (said_leaf (width s w))) ps h in
+    let is : ps ≡ a_tree (node (leaf (width s w)) only_piece.2.0) no_tree = subst (λ (t : ValueTree). ps ≡ a_tree t no_tree) only_piece.2.1 only_piece.1 in
     record {
       kind = type_form type_kinds.Integer;
       at = refl;
@@ -113,8 +114,8 @@ unit_type_said context ps h = record { kind = type_form type_kinds.Unit; at = re
 
 -- what types say can be read
 pub says_types : SaysTypes says formats values
-says_types context (types.Integer t) n us ps e = let said = said_if (nat_lt t.width (2 ^ 32)) (Some (0, one (leaf (said_width t.signedness t.width)))) n us e in
-    of_said 0 n (one (leaf (said_width t.signedness t.width))) us TypeSaid said.1 (integer_type_said t.signedness t.width said.0) context ps
+says_types context (types.Integer t) n us ps e = let said = said_if (nat_lt t.width (2 ^ 32)) (Some (0, one (alone (said_leaf (width t.signedness t.width))))) n us e in
+    of_said 0 n (one (alone (said_leaf (width t.signedness t.width)))) us TypeSaid said.1 (integer_type_said t.signedness t.width said.0) context ps
 says_types context (types.Function f) n us ps e = of_said 1 n (two (node said_list (types_said f.inputs.items)) (node said_list (types_said f.results.items))) us TypeSaid e (function_type_said f.inputs.items f.results.items) context ps
 says_types context types.Unit n us ps e = of_said 2 n no_tree us TypeSaid e unit_type_said context ps
 
@@ -149,26 +150,26 @@ AttributeSaid n us = (context : List KitType) (ps : Pieces) → ShowsAll says co
 
 -- the pieces of a number and its width
 abbrev number_pieces : Number → Pieces → Signedness → ℕ → Pieces → Pieces
-number_pieces n ts s w us = a_tree (node (number n.is_negative n.magnitude) ts) (a_tree (node (width s w) us) no_tree)
+number_pieces n ts s w us = a_tree (node (leaf (number n.is_negative n.magnitude)) ts) (a_tree (node (leaf (width s w)) us) no_tree)
 
 integer_attribute_said : (a : IntegerAttr) → has_values a.integer.width ≡ true → nat_lt a.bits (2 ^ a.integer.width) ≡ true → AttributeSaid 0 (integer_said a.integer.signedness a.integer.width (printed_number a))
 integer_attribute_said a wide fits context ps h =
     let s = a.integer.signedness in
     let w = a.integer.width in
     let n = printed_number a in
-    let pieces = two_seen says context (leaf (said_number n.is_negative n.magnitude)) (leaf (said_width s w)) ps h in
+    let pieces = two_seen says context (alone (said_leaf (number n.is_negative n.magnitude))) (alone (said_leaf (width s w))) ps h in
     let ts = pieces.3.0 in
     let us = pieces.4.0 in
-    let is : ps ≡ number_pieces n ts s w us = pieces.2 ∙ (ap (λ (t : ValueTree). a_tree t (a_tree pieces.1 no_tree)) pieces.3.1 ∙ ap (λ (t : ValueTree). a_tree (node (number n.is_negative n.magnitude) ts) (a_tree t no_tree)) pieces.4.1) in
+    let is : ps ≡ number_pieces n ts s w us = pieces.2 ∙ (ap (λ (t : ValueTree). a_tree t (a_tree pieces.1 no_tree)) pieces.3.1 ∙ ap (λ (t : ValueTree). a_tree (node (leaf (number n.is_negative n.magnitude)) ts) (a_tree t no_tree)) pieces.4.1) in
     let small = small_width w wide in
     let low : a.bits < 2 ^ w = ltb-true a.bits (2 ^ w) fits in
-    let range : is_number_of w (number n.is_negative n.magnitude) ≡ true = in_range n.is_negative (2 ^ w) a.bits (high s w a.bits) low in
+    let range : is_number_of w (leaf (number n.is_negative n.magnitude)) ≡ true = in_range n.is_negative (2 ^ w) a.bits (high s w a.bits) low in
     let same : number_modulo w n ≡ a.bits = same_bits n.is_negative (2 ^ w) a.bits low in
     record {
       kind = attr_form attr_kinds.Integer;
       at = refl;
       shaped = ((refl, in_64_bits n.is_negative (2 ^ w) a.bits (high s w a.bits) low (pow_mono small.0)), ((refl, small.1), tt));
-      read = ap (refused_attribute 0) is ∙ (ap (λ (b : Bool). cond b (refused_unless (is_number_of w (number n.is_negative n.magnitude)) 0) (Some 1)) wide ∙ ap (λ (b : Bool). refused_unless b 0) range);
+      read = ap (refused_attribute 0) is ∙ (ap (λ (b : Bool). cond b (refused_unless (is_number_of w (leaf (number n.is_negative n.magnitude))) 0) (Some 1)) wide ∙ ap (λ (b : Bool). refused_unless b 0) range);
       canonical = ap (canonical 0) is ∙ (ap (λ (bits : ℕ). number_pieces (number_of_bits s w bits) ts s w us) same ∙ sym is);
     }
 
@@ -192,45 +193,45 @@ pub record FormRead (form : OpForm) (count : ℕ) (us : Trees (Said KitAttr)) (p
 abbrev FormSaid : OpForm → ℕ → Trees (Said KitAttr) → Type 0
 FormSaid form count us = (context : List KitType) (ps : Pieces) → ShowsAll says context us ps → FormRead form count us ps
 
-module_said : (id : Identifier) → FormSaid NamedRegion 0 (two (leaf (said_name (text_of id))) (leaf said_region))
+module_said : (id : Identifier) → FormSaid NamedRegion 0 (two (alone (said_leaf (name (text_of id)))) (alone said_region))
 module_said id context ps h =
-    let pieces = two_seen says context (leaf (said_name (text_of id))) (leaf said_region) ps h in
-    let is : ps ≡ a_tree (node (name (text_of id)) pieces.3.0) (a_tree (node region pieces.4.0) no_tree) =
-    pieces.2 ∙ (ap (λ (t : ValueTree). a_tree t (a_tree pieces.1 no_tree)) pieces.3.1 ∙ ap (λ (t : ValueTree). a_tree (node (name (text_of id)) pieces.3.0) (a_tree t no_tree)) pieces.4.1) in
-    record { shaped = ((tt, id.valid), (refl, tt)); read = ap (refused_in NamedRegion) is; operands = ap operands_said is }
+    let pieces = two_seen says context (alone (said_leaf (name (text_of id)))) (alone said_region) ps h in
+    let is : ps ≡ a_tree (node (leaf (name (text_of id))) pieces.3.0) (a_tree (node region pieces.4.0) no_tree) =
+    pieces.2 ∙ (ap (λ (t : ValueTree). a_tree t (a_tree pieces.1 no_tree)) pieces.3.1 ∙ ap (λ (t : ValueTree). a_tree (node (leaf (name (text_of id))) pieces.3.0) (a_tree t no_tree)) pieces.4.1) in
+    record { shaped = ((refl, id.valid), (refl, tt)); read = ap (refused_in NamedRegion) is; operands = ap operands_said is }
 
-function_said : (id : Identifier) (ty : TypeHandle) → FormSaid TypedRegion 0 (a_tree (leaf (said_name (text_of id))) (two (leaf (said_type ty)) (leaf said_region)))
+function_said : (id : Identifier) (ty : TypeHandle) → FormSaid TypedRegion 0 (a_tree (alone (said_leaf (name (text_of id)))) (two (alone (said_type ty)) (alone said_region)))
 function_said id ty context ps h =
-    let pieces = three_seen says context (leaf (said_name (text_of id))) (leaf (said_type ty)) (leaf said_region) ps h in
-    let is : ps ≡ a_tree (node (name (text_of id)) pieces.4.0) (a_tree (node (type_of_kind pieces.5.0) pieces.5.1) (a_tree (node region pieces.6.0) no_tree)) =
+    let pieces = three_seen says context (alone (said_leaf (name (text_of id)))) (alone (said_type ty)) (alone said_region) ps h in
+    let is : ps ≡ a_tree (node (leaf (name (text_of id))) pieces.4.0) (a_tree (node (value_of_kind sorts.«Type» pieces.5.0) pieces.5.1) (a_tree (node region pieces.6.0) no_tree)) =
     pieces.3 ∙ (ap (λ (t : ValueTree). a_tree t (a_tree pieces.1 (a_tree pieces.2 no_tree))) pieces.4.1
-    ∙ (ap (λ (t : ValueTree). a_tree (node (name (text_of id)) pieces.4.0) (a_tree t (a_tree pieces.2 no_tree))) pieces.5.2
-    ∙ ap (λ (t : ValueTree). a_tree (node (name (text_of id)) pieces.4.0) (a_tree (node (type_of_kind pieces.5.0) pieces.5.1) (a_tree t no_tree))) pieces.6.1)) in
-    record { shaped = ((tt, id.valid), (refl, (refl, tt))); read = ap (refused_in TypedRegion) is; operands = ap operands_said is }
+    ∙ (ap (λ (t : ValueTree). a_tree (node (leaf (name (text_of id))) pieces.4.0) (a_tree t (a_tree pieces.2 no_tree))) pieces.5.2
+    ∙ ap (λ (t : ValueTree). a_tree (node (leaf (name (text_of id))) pieces.4.0) (a_tree (node (value_of_kind sorts.«Type» pieces.5.0) pieces.5.1) (a_tree t no_tree))) pieces.6.1)) in
+    record { shaped = ((refl, id.valid), (refl, (refl, tt))); read = ap (refused_in TypedRegion) is; operands = ap operands_said is }
 
-constant_said : (a : IntegerAttr) → FormSaid Value 0 (one (leaf (said_attribute (attrs.Integer a))))
+constant_said : (a : IntegerAttr) → FormSaid Value 0 (one (alone (said_attribute (attrs.Integer a))))
 constant_said a context ps h =
-    let piece = one_seen says context (leaf (said_attribute (attrs.Integer a))) ps h in
-    let is : ps ≡ a_tree (node (attribute_of_kind piece.2.0) piece.2.1) no_tree = piece.1 ∙ ap (λ (t : ValueTree). a_tree t no_tree) piece.2.2 in
+    let piece = one_seen says context (alone (said_attribute (attrs.Integer a))) ps h in
+    let is : ps ≡ a_tree (node (value_of_kind sorts.Attribute piece.2.0) piece.2.1) no_tree = piece.1 ∙ ap (λ (t : ValueTree). a_tree t no_tree) piece.2.2 in
     record { shaped = (refl, tt); read = ap (refused_in Value) is; operands = ap operands_said is }
 
-operands_read : (count : ℕ) → FormSaid AnyOperands count (one (leaf (said_operands count)))
+operands_read : (count : ℕ) → FormSaid AnyOperands count (one (alone (said_operands count)))
 operands_read count context ps h =
-    let piece = one_seen says context (leaf (said_operands count)) ps h in
+    let piece = one_seen says context (alone (said_operands count)) ps h in
     let is : ps ≡ a_tree (node (operands count) piece.2.0) no_tree = piece.1 ∙ ap (λ (t : ValueTree). a_tree t no_tree) piece.2.1 in
     let plain : count + 0 ≡ count = omega arith in
     record { shaped = (tt, tt); read = ap (refused_in AnyOperands) is; operands = ap operands_said is ∙ plain }
 
-operand_read : FormSaid OneOperand 1 (one (leaf (said_operands 1)))
+operand_read : FormSaid OneOperand 1 (one (alone (said_operands 1)))
 operand_read context ps h =
-    let piece = one_seen says context (leaf (said_operands 1)) ps h in
+    let piece = one_seen says context (alone (said_operands 1)) ps h in
     let is : ps ≡ a_tree (node (operands 1) piece.2.0) no_tree = piece.1 ∙ ap (λ (t : ValueTree). a_tree t no_tree) piece.2.1 in
     record { shaped = (refl, tt); read = ap (refused_in OneOperand) is; operands = ap operands_said is }
 
 pair_read : (ty : TypeHandle) → FormSaid TwoOperands 2 (pair_said ty)
 pair_read ty context ps h =
-    let pieces = three_seen says context (leaf (said_operands 1)) (leaf (said_operands 1)) (leaf (said_type ty)) ps h in
-    let is : ps ≡ a_tree (node (operands 1) pieces.4.0) (a_tree (node (operands 1) pieces.5.0) (a_tree (node (type_of_kind pieces.6.0) pieces.6.1) no_tree)) =
+    let pieces = three_seen says context (alone (said_operands 1)) (alone (said_operands 1)) (alone (said_type ty)) ps h in
+    let is : ps ≡ a_tree (node (operands 1) pieces.4.0) (a_tree (node (operands 1) pieces.5.0) (a_tree (node (value_of_kind sorts.«Type» pieces.6.0) pieces.6.1) no_tree)) =
     pieces.3 ∙ (ap (λ (t : ValueTree). a_tree t (a_tree pieces.1 (a_tree pieces.2 no_tree))) pieces.4.1
     ∙ (ap (λ (t : ValueTree). a_tree (node (operands 1) pieces.4.0) (a_tree t (a_tree pieces.2 no_tree))) pieces.5.1
     ∙ ap (λ (t : ValueTree). a_tree (node (operands 1) pieces.4.0) (a_tree (node (operands 1) pieces.5.0) (a_tree t no_tree))) pieces.6.2)) in
@@ -243,24 +244,24 @@ empty_read context ps h =
 
 call_read : (id : Identifier) (ty : TypeHandle) (count : ℕ) → FormSaid Called count (call_said (text_of id) ty count)
 call_read id ty count context ps h =
-    let pieces = three_seen says context (leaf (said_name (text_of id))) (leaf (said_operands count)) (leaf (said_type ty)) ps h in
-    let is : ps ≡ a_tree (node (name (text_of id)) pieces.4.0) (a_tree (node (operands count) pieces.5.0) (a_tree (node (type_of_kind pieces.6.0) pieces.6.1) no_tree)) =
+    let pieces = three_seen says context (alone (said_leaf (name (text_of id)))) (alone (said_operands count)) (alone (said_type ty)) ps h in
+    let is : ps ≡ a_tree (node (leaf (name (text_of id))) pieces.4.0) (a_tree (node (operands count) pieces.5.0) (a_tree (node (value_of_kind sorts.«Type» pieces.6.0) pieces.6.1) no_tree)) =
     pieces.3 ∙ (ap (λ (t : ValueTree). a_tree t (a_tree pieces.1 (a_tree pieces.2 no_tree))) pieces.4.1
-    ∙ (ap (λ (t : ValueTree). a_tree (node (name (text_of id)) pieces.4.0) (a_tree t (a_tree pieces.2 no_tree))) pieces.5.1
-    ∙ ap (λ (t : ValueTree). a_tree (node (name (text_of id)) pieces.4.0) (a_tree (node (operands count) pieces.5.0) (a_tree t no_tree))) pieces.6.2)) in
+    ∙ (ap (λ (t : ValueTree). a_tree (node (leaf (name (text_of id))) pieces.4.0) (a_tree t (a_tree pieces.2 no_tree))) pieces.5.1
+    ∙ ap (λ (t : ValueTree). a_tree (node (leaf (name (text_of id))) pieces.4.0) (a_tree (node (operands count) pieces.5.0) (a_tree t no_tree))) pieces.6.2)) in
     let plain : count + 0 ≡ count = omega arith in
-    record { shaped = ((tt, id.valid), (tt, (refl, tt))); read = ap (refused_in Called) is; operands = ap operands_said is ∙ plain }
+    record { shaped = ((refl, id.valid), (tt, (refl, tt))); read = ap (refused_in Called) is; operands = ap operands_said is ∙ plain }
 
-edge_read : (count : ℕ) → FormSaid Edge count (one (leaf (said_successor count)))
+edge_read : (count : ℕ) → FormSaid Edge count (one (alone (said_successor count)))
 edge_read count context ps h =
-    let piece = one_seen says context (leaf (said_successor count)) ps h in
+    let piece = one_seen says context (alone (said_successor count)) ps h in
     let is : ps ≡ a_tree (node (successor count) piece.2.0) no_tree = piece.1 ∙ ap (λ (t : ValueTree). a_tree t no_tree) piece.2.1 in
     let plain : count + 0 ≡ count = omega arith in
     record { shaped = (refl, tt); read = ap (refused_in Edge) is; operands = ap operands_said is ∙ plain }
 
 edges_read : (a b : ℕ) → FormSaid ConditionEdges (1 + (a + b)) (condition_said a b)
 edges_read a b context ps h =
-    let pieces = three_seen says context (leaf (said_operands 1)) (leaf (said_successor a)) (leaf (said_successor b)) ps h in
+    let pieces = three_seen says context (alone (said_operands 1)) (alone (said_successor a)) (alone (said_successor b)) ps h in
     let is : ps ≡ a_tree (node (operands 1) pieces.4.0) (a_tree (node (successor a) pieces.5.0) (a_tree (node (successor b) pieces.6.0) no_tree)) =
     pieces.3 ∙ (ap (λ (t : ValueTree). a_tree t (a_tree pieces.1 (a_tree pieces.2 no_tree))) pieces.4.1
     ∙ (ap (λ (t : ValueTree). a_tree (node (operands 1) pieces.4.0) (a_tree t (a_tree pieces.2 no_tree))) pieces.5.1
@@ -272,14 +273,14 @@ edges_read a b context ps h =
 is_said : (vs us : Trees (Said KitAttr)) (P : Trees (Said KitAttr) → Type 0) → ◌≡◌ {A = Option (Trees (Said KitAttr))} (Some vs) (Some us) → P vs → P us
 is_said vs us P e k = let same : vs ≡ us = cc in subst P same k
 
-module_by : (P : Trees (Said KitAttr) → Type 0) → ((id : Identifier) → P (two (leaf (said_name (text_of id))) (leaf said_region))) → (o : Option KitAttr) (us : Trees (Said KitAttr)) → said_of_module o ≡ Some us → P us
-module_by P k (Some (attrs.Identifier id)) us e = is_said (two (leaf (said_name (text_of id))) (leaf said_region)) us P e (k id)
+module_by : (P : Trees (Said KitAttr) → Type 0) → ((id : Identifier) → P (two (alone (said_leaf (name (text_of id)))) (alone said_region))) → (o : Option KitAttr) (us : Trees (Said KitAttr)) → said_of_module o ≡ Some us → P us
+module_by P k (Some (attrs.Identifier id)) us e = is_said (two (alone (said_leaf (name (text_of id)))) (alone said_region)) us P e (k id)
 module_by P k (Some other) us e = absurd (none-some us e)
 module_by P k None us e = absurd (none-some us e)
 
-function_by : (P : Trees (Said KitAttr) → Type 0) → ((id : Identifier) (ty : TypeHandle) → P (a_tree (leaf (said_name (text_of id))) (two (leaf (said_type ty)) (leaf said_region)))) →
+function_by : (P : Trees (Said KitAttr) → Type 0) → ((id : Identifier) (ty : TypeHandle) → P (a_tree (alone (said_leaf (name (text_of id)))) (two (alone (said_type ty)) (alone said_region)))) →
     (o p : Option KitAttr) (us : Trees (Said KitAttr)) → said_of_function o p ≡ Some us → P us
-function_by P k (Some (attrs.Identifier id)) (Some (attrs.«Type» ty)) us e = is_said (a_tree (leaf (said_name (text_of id))) (two (leaf (said_type ty)) (leaf said_region))) us P e (k id ty)
+function_by P k (Some (attrs.Identifier id)) (Some (attrs.«Type» ty)) us e = is_said (a_tree (alone (said_leaf (name (text_of id)))) (two (alone (said_type ty)) (alone said_region))) us P e (k id ty)
 function_by P k (Some (attrs.Identifier id)) other us e = absurd (none-some us e)
 function_by P k other p us e = absurd (none-some us e)
 
@@ -288,27 +289,27 @@ pub record ConstantSays (o : Option KitAttr) (tys : List TypeHandle) (us : Trees
   pub value : IntegerAttr
   pub has : o ≡ Some (attrs.Integer value)
   pub result : tys ≡ value.ty ∷ []
-  pub says_it : one (leaf (said_attribute (attrs.Integer value))) ≡ us
+  pub says_it : one (alone (said_attribute (attrs.Integer value))) ≡ us
 
 pub constant_says : (o : Option KitAttr) (tys : List TypeHandle) (us : Trees (Said KitAttr)) → said_of_constant o tys ≡ Some us → ConstantSays o tys us
 constant_says (Some (attrs.Integer a)) [] us e = absurd (none-some us e)
 constant_says (Some (attrs.Integer a)) (ty ∷ other ∷ tys) us e = absurd (none-some us e)
 constant_says (Some (attrs.Integer a)) (ty ∷ []) us e =
-    let said = only_if (is_same_type a.ty ty) (Some (one (leaf (said_attribute (attrs.Integer a))))) us e in
+    let said = only_if (is_same_type a.ty ty) (Some (one (alone (said_attribute (attrs.Integer a))))) us e in
     record {
       value = a;
       has = refl;
       result = ap (λ (n : ℕ). record { number = n } ∷ []) (sym (eqb-true a.ty.number ty.number said.0));
-      says_it = same_Some (one (leaf (said_attribute (attrs.Integer a)))) us said.1;
+      says_it = same_Some (one (alone (said_attribute (attrs.Integer a)))) us said.1;
     }
 constant_says (Some other) tys us e = absurd (none-some us e)
 constant_says None tys us e = absurd (none-some us e)
 
 -- and where it has them, it says the value
-pub constant_said_so : (a : IntegerAttr) → said_of_constant (Some (attrs.Integer a)) (a.ty ∷ []) ≡ Some (one (leaf (said_attribute (attrs.Integer a))))
-constant_said_so a = ap (λ (b : Bool). only b (Some (one (leaf (said_attribute (attrs.Integer a)))))) (eq-eqb a.ty.number a.ty.number refl)
+pub constant_said_so : (a : IntegerAttr) → said_of_constant (Some (attrs.Integer a)) (a.ty ∷ []) ≡ Some (one (alone (said_attribute (attrs.Integer a))))
+constant_said_so a = ap (λ (b : Bool). only b (Some (one (alone (said_attribute (attrs.Integer a)))))) (eq-eqb a.ty.number a.ty.number refl)
 
-constant_by : (P : Trees (Said KitAttr) → Type 0) → ((a : IntegerAttr) → P (one (leaf (said_attribute (attrs.Integer a))))) → (o : Option KitAttr) (tys : List TypeHandle) (us : Trees (Said KitAttr)) → said_of_constant o tys ≡ Some us → P us
+constant_by : (P : Trees (Said KitAttr) → Type 0) → ((a : IntegerAttr) → P (one (alone (said_attribute (attrs.Integer a))))) → (o : Option KitAttr) (tys : List TypeHandle) (us : Trees (Said KitAttr)) → said_of_constant o tys ≡ Some us → P us
 constant_by P k o tys us e = let said = constant_says o tys us e in subst P said.says_it (k said.value)
 
 pair_by : (P : Trees (Said KitAttr) → Type 0) → ((ty : TypeHandle) → P (pair_said ty)) → (tys : List TypeHandle) (us : Trees (Said KitAttr)) → said_of_pair tys ≡ Some us → P us
@@ -384,11 +385,11 @@ form_said TwoOperands entries count tys us e =
     let said = only_if (length entries == 0 && count == 2) (said_of_pair tys) us e in
     subst (λ (c : ℕ). FormSaid TwoOperands c us) (many_used (length entries == 0) count 2 said.0) (pair_by (FormSaid TwoOperands 2) pair_read tys us said.1)
 form_said OneOperand entries count tys us e =
-    let said = only_if (length entries == 0 && count == 1) (Some (one (leaf (said_operands 1)))) us e in
-    subst (λ (c : ℕ). FormSaid OneOperand c us) (many_used (length entries == 0) count 1 said.0) (is_said (one (leaf (said_operands 1))) us (FormSaid OneOperand 1) said.1 operand_read)
+    let said = only_if (length entries == 0 && count == 1) (Some (one (alone (said_operands 1)))) us e in
+    subst (λ (c : ℕ). FormSaid OneOperand c us) (many_used (length entries == 0) count 1 said.0) (is_said (one (alone (said_operands 1))) us (FormSaid OneOperand 1) said.1 operand_read)
 form_said AnyOperands entries count tys us e =
-    let said = only_if (length entries == 0) (Some (one (leaf (said_operands count)))) us e in
-    is_said (one (leaf (said_operands count))) us (FormSaid AnyOperands count) said.1 (operands_read count)
+    let said = only_if (length entries == 0) (Some (one (alone (said_operands count)))) us e in
+    is_said (one (alone (said_operands count))) us (FormSaid AnyOperands count) said.1 (operands_read count)
 form_said Empty entries count tys us e =
     let said = only_if (length entries == 0 && count == 0) (Some no_tree) us e in
     subst (λ (c : ℕ). FormSaid Empty c us) (many_used (length entries == 0) count 0 said.0) (is_said no_tree us (FormSaid Empty 0) said.1 empty_read)
@@ -396,8 +397,8 @@ form_said Called entries count tys us e =
     let said = only_if (length entries == 2) (said_of_call (attribute_at entries callee) (attribute_at entries callee_type) count) us e in
     call_by (FormSaid Called count) count (λ id ty. call_read id ty count) (attribute_at entries callee) (attribute_at entries callee_type) us said.1
 form_said Edge entries count tys us e =
-    let said = only_if (length entries == 0) (Some (one (leaf (said_successor count)))) us e in
-    is_said (one (leaf (said_successor count))) us (FormSaid Edge count) said.1 (edge_read count)
+    let said = only_if (length entries == 0) (Some (one (alone (said_successor count)))) us e in
+    is_said (one (alone (said_successor count))) us (FormSaid Edge count) said.1 (edge_read count)
 form_said ConditionEdges entries count tys us e =
     let said = only_if (length entries == 1) (said_of_condition (attribute_at entries segment_sizes) count) us e in
     let condition = condition_says (attribute_at entries segment_sizes) count us said.1 in
@@ -453,8 +454,8 @@ says_kinds kind entries count tys n us e = numbered_kind kind n (is_numbered (fo
 
 -- so does a type
 pub says_type_kinds : (key : KitType) (n : ℕ) (us : Trees (Said KitAttr)) → said_of_type key ≡ Some (n, us) → slice_get read_types n ≡ Some (type_kind key)
-says_type_kinds (types.Integer t) n us e = let said = said_if (nat_lt t.width (2 ^ 32)) (Some (0, one (leaf (said_width t.signedness t.width)))) n us e in
-    of_said 0 n (one (leaf (said_width t.signedness t.width))) us (λ m vs. slice_get read_types m ≡ Some type_kinds.Integer) said.1 refl
+says_type_kinds (types.Integer t) n us e = let said = said_if (nat_lt t.width (2 ^ 32)) (Some (0, one (alone (said_leaf (width t.signedness t.width))))) n us e in
+    of_said 0 n (one (alone (said_leaf (width t.signedness t.width)))) us (λ m vs. slice_get read_types m ≡ Some type_kinds.Integer) said.1 refl
 says_type_kinds (types.Function f) n us e = of_said 1 n (two (node said_list (types_said f.inputs.items)) (node said_list (types_said f.results.items))) us (λ m vs. slice_get read_types m ≡ Some type_kinds.Function) e refl
 says_type_kinds types.Unit n us e = of_said 2 n no_tree us (λ m vs. slice_get read_types m ≡ Some type_kinds.Unit) e refl
 

@@ -6,8 +6,8 @@ use Rattle.ir_names.specs.Dictionary.{attribute_at}
 use Rattle.ir_names.specs.Identifier.{text_of}
 use Rattle.ir_names.specs.Tree.{LabelledTree, Trees, node, no_tree, a_tree, label_of, below}
 use Rattle.ir_print.specs.declared.format.Number.{Number}
-use Rattle.ir_print.specs.Pieces.{Piece, type_of_kind, attribute_of_kind, list, item, operands, successor, region, name, number, width, ValueTree, Pieces, Values}
-use Rattle.ir_print.specs.Shown.{Said, said_type, said_attribute, said_list, said_item, said_operands, said_successor, said_region, said_name, said_number, said_width, leaf, Saying}
+use Rattle.ir_print.specs.Pieces.{Piece, value_of_kind, list, item, operands, successor, region, leaf, name, number, width, ValueTree, Pieces, Values}
+use Rattle.ir_print.specs.Shown.{Said, said_type, said_attribute, said_list, said_item, said_operands, said_successor, said_region, said_leaf, alone, Saying}
 use Rattle.kit_ops.specs.declared.kinds.KitOp.{KitOp}
 use Rattle.kit_ops.specs.Keys.{symbol_name, function_type, constant_value, callee, callee_type, segment_sizes}
 use Rattle.kit.specs.Forms.{OpForm, NamedRegion, TypedRegion, Value, TwoOperands, OneOperand, AnyOperands, Empty, Called, Edge, ConditionEdges, form_of, number_of, read_ops}
@@ -15,6 +15,7 @@ use Rattle.kit_ops.specs.declared.types.KitType.{KitType}
 use Rattle.kit_ops.specs.declared.types.KitType.TheVariants as types
 use Rattle.kit_ops.specs.declared.attributes.KitAttr.{KitAttr}
 use Rattle.kit_ops.specs.declared.attributes.KitAttr.TheVariants as attrs
+use Rattle.ir_print.specs.declared.format.ValueSort.TheVariants as sorts
 use Rattle.kit.specs.Numbers.{number_of_bits, number_modulo, printed_number}
 
 -- ---- what is in a context
@@ -35,11 +36,11 @@ only false said = None
 -- the types of a list, a member each
 abbrev pub types_said : List TypeHandle → Trees (Said KitAttr)
 types_said [] = no_tree
-types_said (ty ∷ tys) = a_tree (node said_item (one (leaf (said_type ty)))) (types_said tys)
+types_said (ty ∷ tys) = a_tree (node said_item (one (alone (said_type ty)))) (types_said tys)
 
 -- an integer type says its width, which has less than 2^32 bits, a function type its inputs and its results, and the unit type nothing
 abbrev pub said_of_type : KitType → Option (ℕ × Trees (Said KitAttr))
-said_of_type (types.Integer t) = only (nat_lt t.width (2 ^ 32)) (Some (0, one (leaf (said_width t.signedness t.width))))
+said_of_type (types.Integer t) = only (nat_lt t.width (2 ^ 32)) (Some (0, one (alone (said_leaf (width t.signedness t.width)))))
 said_of_type (types.Function f) = Some (1, two (node said_list (types_said f.inputs.items)) (node said_list (types_said f.results.items)))
 said_of_type types.Unit = Some (2, no_tree)
 
@@ -49,7 +50,7 @@ has_values w = nat_le 1 w && nat_le w 64
 
 -- the pieces of a number of a type
 abbrev pub integer_said : Signedness → ℕ → Number → Trees (Said KitAttr)
-integer_said s w n = two (leaf (said_number n.is_negative n.magnitude)) (leaf (said_width s w))
+integer_said s w n = two (alone (said_leaf (number n.is_negative n.magnitude))) (alone (said_leaf (width s w)))
 
 -- an integer with bits of its type says the number that is printed for them, and its width
 abbrev pub said_of_attribute : KitAttr → Option (ℕ × Trees (Said KitAttr))
@@ -58,13 +59,13 @@ said_of_attribute _ = None
 
 -- what a module says that has a name
 abbrev pub said_of_module : Option KitAttr → Option (Trees (Said KitAttr))
-said_of_module (Some (attrs.Identifier id)) = Some (two (leaf (said_name (text_of id))) (leaf said_region))
+said_of_module (Some (attrs.Identifier id)) = Some (two (alone (said_leaf (name (text_of id)))) (alone said_region))
 said_of_module _ = None
 
 -- what a function says that has a name and a type
 abbrev pub said_of_function : Option KitAttr → Option KitAttr → Option (Trees (Said KitAttr))
 said_of_function (Some (attrs.Identifier id)) (Some (attrs.«Type» ty)) =
-    Some (a_tree (leaf (said_name (text_of id))) (two (leaf (said_type ty)) (leaf said_region)))
+    Some (a_tree (alone (said_leaf (name (text_of id)))) (two (alone (said_type ty)) (alone said_region)))
 said_of_function _ _ = None
 
 -- these are one type: the handles have one number
@@ -73,12 +74,12 @@ is_same_type x y = x.number == y.number
 
 -- what a constant says that has a value and results of these types: the value, where there is one result, which has its type
 abbrev pub said_of_constant : Option KitAttr → List TypeHandle → Option (Trees (Said KitAttr))
-said_of_constant (Some (attrs.Integer a)) (ty ∷ []) = only (is_same_type a.ty ty) (Some (one (leaf (said_attribute (attrs.Integer a)))))
+said_of_constant (Some (attrs.Integer a)) (ty ∷ []) = only (is_same_type a.ty ty) (Some (one (alone (said_attribute (attrs.Integer a)))))
 said_of_constant _ _ = None
 
 -- what an operation with two operands and one result of this type says
 abbrev pub pair_said : TypeHandle → Trees (Said KitAttr)
-pair_said ty = a_tree (leaf (said_operands 1)) (two (leaf (said_operands 1)) (leaf (said_type ty)))
+pair_said ty = a_tree (alone (said_operands 1)) (two (alone (said_operands 1)) (alone (said_type ty)))
 
 abbrev pub said_of_pair : List TypeHandle → Option (Trees (Said KitAttr))
 said_of_pair (ty ∷ []) = Some (pair_said ty)
@@ -86,7 +87,7 @@ said_of_pair _ = None
 
 -- what a call of a function with this name and this type says that has so many operands
 abbrev pub call_said : List ℕ → TypeHandle → ℕ → Trees (Said KitAttr)
-call_said cs ty n = a_tree (leaf (said_name cs)) (two (leaf (said_operands n)) (leaf (said_type ty)))
+call_said cs ty n = a_tree (alone (said_leaf (name cs))) (two (alone (said_operands n)) (alone (said_type ty)))
 
 -- the same of a call that has a name and a type
 abbrev pub said_of_call : Option KitAttr → Option KitAttr → ℕ → Option (Trees (Said KitAttr))
@@ -95,7 +96,7 @@ said_of_call _ _ n = None
 
 -- what a conditional branch says whose edges hand on so many operands
 abbrev pub condition_said : ℕ → ℕ → Trees (Said KitAttr)
-condition_said a b = a_tree (leaf (said_operands 1)) (two (leaf (said_successor a)) (leaf (said_successor b)))
+condition_said a b = a_tree (alone (said_operands 1)) (two (alone (said_successor a)) (alone (said_successor b)))
 
 -- the same of one with segments of these sizes and so many operands: there are three segments, the first of which has one
 -- operand, and the operands are those of the segments
@@ -116,11 +117,11 @@ said_in TypedRegion entries n tys =
     only (length entries == 2 && n == 0) (said_of_function (attribute_at entries symbol_name) (attribute_at entries function_type))
 said_in Value entries n tys = only (length entries == 1 && n == 0) (said_of_constant (attribute_at entries constant_value) tys)
 said_in TwoOperands entries n tys = only (length entries == 0 && n == 2) (said_of_pair tys)
-said_in OneOperand entries n tys = only (length entries == 0 && n == 1) (Some (one (leaf (said_operands 1))))
-said_in AnyOperands entries n tys = only (length entries == 0) (Some (one (leaf (said_operands n))))
+said_in OneOperand entries n tys = only (length entries == 0 && n == 1) (Some (one (alone (said_operands 1))))
+said_in AnyOperands entries n tys = only (length entries == 0) (Some (one (alone (said_operands n))))
 said_in Empty entries n tys = only (length entries == 0 && n == 0) (Some no_tree)
 said_in Called entries n tys = only (length entries == 2) (said_of_call (attribute_at entries callee) (attribute_at entries callee_type) n)
-said_in Edge entries n tys = only (length entries == 0) (Some (one (leaf (said_successor n))))
+said_in Edge entries n tys = only (length entries == 0) (Some (one (alone (said_successor n))))
 said_in ConditionEdges entries n tys = only (length entries == 1) (said_of_condition (attribute_at entries segment_sizes) n)
 
 -- the same with the number of the kind, where there is a form and a number
@@ -146,22 +147,22 @@ refused_unless false i = Some i
 
 -- the piece is a width of less than 2^32 bits
 abbrev pub is_small_width : ValueTree → Bool
-is_small_width (node (width sign bits) _) = nat_lt bits (2 ^ 32)
+is_small_width (node (leaf (width sign bits)) _) = nat_lt bits (2 ^ 32)
 is_small_width _ = false
 
 -- the piece is a type
 abbrev pub is_type : ValueTree → Bool
-is_type (node (type_of_kind n) _) = true
+is_type (node (value_of_kind sorts.«Type» n) _) = true
 is_type _ = false
 
 -- the piece is an attribute
 abbrev pub is_attribute : ValueTree → Bool
-is_attribute (node (attribute_of_kind n) _) = true
+is_attribute (node (value_of_kind sorts.Attribute n) _) = true
 is_attribute _ = false
 
 -- the piece is a name
 abbrev pub is_name : ValueTree → Bool
-is_name (node (name cs) _) = true
+is_name (node (leaf (name cs)) _) = true
 is_name _ = false
 
 -- the piece is a region
@@ -228,12 +229,12 @@ refused_type _ ps = Some 0
 
 -- the number of bits of a width
 abbrev pub bits_of : Piece → ℕ
-bits_of (width sign bits) = bits
+bits_of (leaf (width sign bits)) = bits
 bits_of _ = 0
 
 -- the piece is a number from -(2^(w - 1)) to 2^w - 1
 abbrev pub is_number_of : ℕ → Piece → Bool
-is_number_of w (number negative magnitude) = cond negative (nat_le (2 * magnitude) (2 ^ w)) (nat_lt magnitude (2 ^ w))
+is_number_of w (leaf (number negative magnitude)) = cond negative (nat_le (2 * magnitude) (2 ^ w)) (nat_lt magnitude (2 ^ w))
 is_number_of w _ = false
 
 -- An integer is refused at its width where that is not from 1 to 64, and else at its number where that is not of the type.
@@ -247,7 +248,7 @@ refused_attribute _ ps = Some 0
 
 -- the number that is printed for a number of a type
 abbrev pub canonical_number : Piece → Piece → Piece
-canonical_number (number negative magnitude) (width s w) = let n = number_of_bits s w (number_modulo w (record { is_negative = negative; magnitude = magnitude })) in number n.is_negative n.magnitude
+canonical_number (leaf (number negative magnitude)) (leaf (width s w)) = let n = number_of_bits s w (number_modulo w (record { is_negative = negative; magnitude = magnitude })) in leaf (number n.is_negative n.magnitude)
 canonical_number p q = p
 
 -- An integer is printed as the number that its bits stand for, and its width.
@@ -283,12 +284,12 @@ refused_operation n ps = refused_by (form_at n) ps
 
 -- the type of the pieces of an integer
 abbrev pub integer_types : Pieces → List ValueTree
-integer_types (a_tree _ (a_tree (node (width s w) _) no_tree)) = node (type_of_kind 0) (a_tree (node (width s w) no_tree) no_tree) ∷ []
+integer_types (a_tree _ (a_tree (node (leaf (width s w)) _) no_tree)) = node (value_of_kind sorts.«Type» 0) (a_tree (node (leaf (width s w)) no_tree) no_tree) ∷ []
 integer_types _ = []
 
 -- the type of the pieces of a constant
 abbrev pub constant_types : Pieces → List ValueTree
-constant_types (a_tree (node (attribute_of_kind zero) ts) no_tree) = integer_types ts
+constant_types (a_tree (node (value_of_kind sorts.Attribute zero) ts) no_tree) = integer_types ts
 constant_types _ = []
 
 -- the type that pieces of two operands and a type end with
@@ -304,7 +305,7 @@ member_types (a_tree _ ts) = member_types ts
 
 -- the types of the results of a function type; none of another type
 abbrev pub types_returned : ValueTree → List ValueTree
-types_returned (node (type_of_kind (suc zero)) (a_tree _ (a_tree (node list ts) no_tree))) = member_types ts
+types_returned (node (value_of_kind sorts.«Type» (suc zero)) (a_tree _ (a_tree (node list ts) no_tree))) = member_types ts
 types_returned _ = []
 
 -- the types of the results of the function type that pieces of a call end with
@@ -318,7 +319,7 @@ call_types _ = []
 abbrev pub result_types_in : OpForm → Pieces → List ValueTree
 result_types_in Value ps = constant_types ps
 result_types_in TwoOperands ps = pair_types ps
-result_types_in Empty ps = node (type_of_kind 2) no_tree ∷ []
+result_types_in Empty ps = node (value_of_kind sorts.«Type» 2) no_tree ∷ []
 result_types_in Called ps = call_types ps
 result_types_in _ ps = []
 

@@ -2,35 +2,32 @@
 use Rattle.std.specs.Prelude.{◌≡◌, ℕ, List, refl}
 use Rattle.std.proofs.Common.{sym, subst}
 use Rattle.ir_names.specs.Tree.{LabelledTree, Trees, node, no_tree, a_tree}
-use Rattle.ir_print.specs.Pieces.{type_of_kind, attribute_of_kind, list, item, operands, successor, region, name, number, width, ValueTree, Pieces}
-use Rattle.ir_print.specs.Shown.{Said, said_type, said_attribute, said_list, said_item, said_operands, said_successor, said_region, said_name, said_number, said_width, Saying, Shows, ShowsAll, ShowsType, ShowsAttribute}
+use Rattle.ir_print.specs.Pieces.{value_of_kind, list, item, operands, successor, region, leaf, ValueTree, Pieces}
+use Rattle.ir_print.specs.declared.format.ValueSort.TheVariants as sorts
+use Rattle.ir_print.specs.Shown.{Said, said_type, said_attribute, said_list, said_item, said_operands, said_successor, said_region, said_leaf, Saying, Shows, ShowsAll, ShowsType, ShowsAttribute}
 
 module _ {K A T : Type 0} (says : Saying K A T) (types : List T) where
   -- the piece of what is said
   abbrev pub SeenPiece : LabelledTree (Said A) → ValueTree → Type 0
-  SeenPiece (node (said_type ty) us) t = (n : ℕ) × (ts : Pieces) × (t ≡ node (type_of_kind n) ts) × ShowsType says types ty (node (type_of_kind n) ts)
-  SeenPiece (node (said_attribute a) us) t = (n : ℕ) × (ts : Pieces) × (t ≡ node (attribute_of_kind n) ts) × ShowsAttribute says types a (node (attribute_of_kind n) ts)
+  SeenPiece (node (said_type ty) us) t = (n : ℕ) × (ts : Pieces) × (t ≡ node (value_of_kind sorts.«Type» n) ts) × ShowsType says types ty (node (value_of_kind sorts.«Type» n) ts)
+  SeenPiece (node (said_attribute a) us) t = (n : ℕ) × (ts : Pieces) × (t ≡ node (value_of_kind sorts.Attribute n) ts) × ShowsAttribute says types a (node (value_of_kind sorts.Attribute n) ts)
   SeenPiece (node said_list us) t = (ts : Pieces) × (t ≡ node list ts) × ShowsAll says types us ts
   SeenPiece (node said_item us) t = (ts : Pieces) × (t ≡ node item ts) × ShowsAll says types us ts
   SeenPiece (node (said_operands n) us) t = (ts : Pieces) × (t ≡ node (operands n) ts)
   SeenPiece (node (said_successor n) us) t = (ts : Pieces) × (t ≡ node (successor n) ts)
   SeenPiece (node said_region us) t = (ts : Pieces) × (t ≡ node region ts)
-  SeenPiece (node (said_name cs) us) t = (ts : Pieces) × (t ≡ node (name cs) ts)
-  SeenPiece (node (said_number negative magnitude) us) t = (ts : Pieces) × (t ≡ node (number negative magnitude) ts)
-  SeenPiece (node (said_width sign bits) us) t = (ts : Pieces) × (t ≡ node (width sign bits) ts)
+  SeenPiece (node (said_leaf l) us) t = (ts : Pieces) × (t ≡ node (leaf l) ts)
 
   -- what is shown is seen
   pub seen : (x : LabelledTree (Said A)) (t : ValueTree) → Shows says types x t → SeenPiece x t
-  seen x (node (type_of_kind n) ts) h = subst (λ y. SeenPiece y (node (type_of_kind n) ts)) (sym h.3) (n, ts, refl, (h.0, h.1, h.2, refl, h.4, h.5, h.6))
-  seen x (node (attribute_of_kind n) ts) h = subst (λ y. SeenPiece y (node (attribute_of_kind n) ts)) (sym h.2) (n, ts, refl, (h.0, h.1, refl, h.3, h.4))
+  seen x (node (value_of_kind sorts.«Type» n) ts) h = subst (λ y. SeenPiece y (node (value_of_kind sorts.«Type» n) ts)) (sym h.3) (n, ts, refl, (h.0, h.1, h.2, refl, h.4, h.5, h.6))
+  seen x (node (value_of_kind sorts.Attribute n) ts) h = subst (λ y. SeenPiece y (node (value_of_kind sorts.Attribute n) ts)) (sym h.2) (n, ts, refl, (h.0, h.1, refl, h.3, h.4))
   seen x (node list ts) h = subst (λ y. SeenPiece y (node list ts)) (sym h.1) (ts, refl, h.2)
   seen x (node item ts) h = subst (λ y. SeenPiece y (node item ts)) (sym h.1) (ts, refl, h.2)
   seen x (node (operands n) ts) h = subst (λ y. SeenPiece y (node (operands n) ts)) (sym h) (ts, refl)
   seen x (node (successor n) ts) h = subst (λ y. SeenPiece y (node (successor n) ts)) (sym h) (ts, refl)
   seen x (node region ts) h = subst (λ y. SeenPiece y (node region ts)) (sym h) (ts, refl)
-  seen x (node (name cs) ts) h = subst (λ y. SeenPiece y (node (name cs) ts)) (sym h) (ts, refl)
-  seen x (node (number negative magnitude) ts) h = subst (λ y. SeenPiece y (node (number negative magnitude) ts)) (sym h) (ts, refl)
-  seen x (node (width sign bits) ts) h = subst (λ y. SeenPiece y (node (width sign bits) ts)) (sym h) (ts, refl)
+  seen x (node (leaf l) ts) h = subst (λ y. SeenPiece y (node (leaf l) ts)) (sym h) (ts, refl)
 
   -- nothing is shown by no pieces
   pub none_seen : (ps : Pieces) → ShowsAll says types no_tree ps → ps ≡ no_tree

@@ -1,7 +1,8 @@
 //! Attributes, made of parts and as parts. Integers alone have texts.
 ghost use Rattle.std.specs.Prelude.{◌≡◌, ℕ, List, Some, None, Err, IfOk};
 ghost use Rattle.ir_names.specs.Tree.{node};
-ghost use Rattle.ir_print.specs.Pieces.{Pieces, attribute_of_kind};
+ghost use Rattle.ir_print.specs.Pieces.{Pieces, value_of_kind};
+ghost use Rattle.ir_print.specs.declared.format.ValueSort.TheVariants as sorts;
 ghost use Rattle.ir_print.specs.Shown.{ShowsParts, ShowsAttribute};
 ghost use Rattle.ir_types.specs.Interned.{KeepsTypes};
 ghost use Rattle.text_dialect.specs.Making as made;
@@ -14,7 +15,7 @@ use crate::dialect::Kit;
 use crate::numbers::{bits_of, has_values, number_of};
 use crate::parts::{integer_in, number_in};
 use ir_context::Context;
-use ir_print::Part;
+use ir_print::{LeafValue, Part};
 use kit_ops::{IntegerAttr, KitAttr, KitAttrKind, KitType};
 use std::alloc::{AllocError, Global};
 use text_dialect::MakeFault;
@@ -29,7 +30,7 @@ fn make_integer(
     ensures types { KeepsTypes ctx.old.types ctx.new.types }
     ensures made { (types new : List KitType) → (ps : Pieces) → ShowsParts says types parts.now ps
         → IfOk result (λ attr. (refused_attribute 0 ps ≡ None)
-        × ShowsAttribute says new attr (node (attribute_of_kind 0) (canonical 0 ps))) }
+        × ShowsAttribute says new attr (node (value_of_kind sorts.Attribute 0) (canonical 0 ps))) }
     ensures refused { (types : List KitType) → (ps : Pieces) → ShowsParts says types parts.now ps → (i : ℕ)
         → result ≡ Err (Refused i) → refused_attribute 0 ps ≡ Some i }
 {
@@ -78,14 +79,14 @@ pub(crate) fn make_attribute(
 /// The parts of an attribute.
 pub(crate) fn attribute_parts(alloc: Global, attr: &KitAttr) -> Result<Vec<Part<Kit>>, AllocError>
     ensures { (types : List KitType) → (n : ℕ) → (ps : Pieces)
-        → ShowsAttribute says types attr.now (node (attribute_of_kind n) ps)
+        → ShowsAttribute says types attr.now (node (value_of_kind sorts.Attribute n) ps)
         → IfOk result (λ parts. ShowsParts says types parts.items ps) }
 {
     match attr {
         KitAttr::Integer(integer) => {
-            let number = Part::Number(Some(number_of(*integer)));
+            let number = Part::Leaf(LeafValue::Number(Some(number_of(*integer))));
             let integer = integer.integer;
-            let width = Part::Width(integer.signedness, Some(integer.width));
+            let width = Part::Leaf(LeafValue::Width(integer.signedness, Some(integer.width)));
             Ok(vec![in alloc; number, width]?)
         }
         _ => Ok(Vec::new(alloc)),

@@ -30,7 +30,7 @@ use crate::parts::{
 };
 use ir_context::{Context, OperandCalls, OperationCalls, ResultCalls};
 use ir_names::{AttributeDict, Identifier, TypeHandle};
-use ir_print::Part;
+use ir_print::{LeafValue, Part};
 use ir_program::{Operation, Ptr};
 use kit_ops::{IntegerAttr, KitAttr, KitOp, KitType, keys};
 use std::alloc::{AllocError, Global};
@@ -331,7 +331,9 @@ fn name_parts(
     ensures { IfOk result (λ parts. AreNameParts (attribute_at attributes.now key.now) parts.items) }
 {
     match attributes.get(key) {
-        Some(KitAttr::Identifier(name)) => Ok(vec![in alloc; Part::Name(name.try_clone()?)]?),
+        Some(KitAttr::Identifier(name)) => Ok(vec![in alloc;
+            Part::Leaf(LeafValue::Name(name.try_clone()?)),
+        ]?),
         _ => Ok(Vec::new(alloc)),
     }
 }

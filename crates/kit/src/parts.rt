@@ -5,7 +5,7 @@ ghost use Rattle.kit.specs.Parts.{number_part, integer_part, list_part, is_one_o
 
 use crate::dialect::Kit;
 use ir_names::{Identifier, TypeHandle};
-use ir_print::{Number, Part};
+use ir_print::{LeafValue, Number, Part};
 use kit_ops::{IntegerAttr, IntegerType, KitAttr};
 use std::alloc::{AllocError, Global};
 
@@ -52,7 +52,7 @@ pub(crate) fn number_in(part: &Part<Kit>) -> Option<Number>
     ensures { result ≡ number_part part.now }
 {
     match part {
-        Part::Number(number) => *number,
+        Part::Leaf(LeafValue::Number(number)) => *number,
         _ => None,
     }
 }
@@ -62,7 +62,7 @@ pub(crate) fn integer_in(part: &Part<Kit>) -> Option<IntegerType>
     ensures { result ≡ integer_part part.now }
 {
     match part {
-        Part::Width(signedness, Some(width)) => Some(IntegerType {
+        Part::Leaf(LeafValue::Width(signedness, Some(width))) => Some(IntegerType {
             signedness: *signedness,
             width: *width,
         }),
@@ -95,7 +95,7 @@ pub(crate) fn module_in(parts: &[Part<Kit>]) -> Option<&Identifier>
     ensures { option_copied result ≡ module_name parts.now }
 {
     match parts {
-        [Part::Name(name), Part::Region] => Some(name),
+        [Part::Leaf(LeafValue::Name(name)), Part::Region] => Some(name),
         _ => None,
     }
 }
@@ -105,7 +105,11 @@ pub(crate) fn function_in(parts: &[Part<Kit>]) -> Option<(&Identifier, TypeHandl
     ensures { option_map (λ e. (e.0.now, e.1)) result ≡ function_header parts.now }
 {
     match parts {
-        [Part::Name(name), Part::Type(ty), Part::Region] => Some((name, *ty)),
+        [
+            Part::Leaf(LeafValue::Name(name)),
+            Part::Type(ty),
+            Part::Region,
+        ] => Some((name, *ty)),
         _ => None,
     }
 }
@@ -145,7 +149,11 @@ pub(crate) fn call_in(parts: &[Part<Kit>]) -> Option<(&Identifier, TypeHandle)>
     ensures { option_map (λ e. (e.0.now, e.1)) result ≡ call_header parts.now }
 {
     match parts {
-        [Part::Name(name), Part::Operands(_), Part::Type(ty)] => Some((name, *ty)),
+        [
+            Part::Leaf(LeafValue::Name(name)),
+            Part::Operands(_),
+            Part::Type(ty),
+        ] => Some((name, *ty)),
         _ => None,
     }
 }

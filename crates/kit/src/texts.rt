@@ -2,7 +2,8 @@
 ghost use Rattle.std.specs.Prelude.{◌≡◌, ℕ, List, Some, Err, IfOk, IsSome, length, slice_get, refl};
 ghost use Rattle.ir_names.specs.Tree.{Trees, node};
 ghost use Rattle.ir_print.specs.Formats.{steps_of};
-ghost use Rattle.ir_print.specs.Pieces.{Pieces, attribute_of_kind};
+ghost use Rattle.ir_print.specs.Pieces.{Pieces, value_of_kind};
+ghost use Rattle.ir_print.specs.declared.format.ValueSort.TheVariants as sorts;
 ghost use Rattle.ir_print.specs.Shown.{Said, ShowsAll, ShowsParts, ShowsKey, ShowsAttribute};
 ghost use Rattle.ir_program.specs.Program.{operation_at};
 ghost use Rattle.ir_types.specs.Interned.{KeepsTypes};

@@ -11,7 +11,7 @@ ghost use Rattle.kit.specs.Says.{says, values};
 
 use crate::dialect::Kit;
 use crate::parts::{integer_type_in, list_in, list_of, types_of};
-use ir_print::Part;
+use ir_print::{LeafValue, Part};
 use kit_ops::{FunctionType, KitType, KitTypeKind};
 use std::alloc::{AllocError, Global};
 use text_dialect::MakeFault;
@@ -88,7 +88,9 @@ pub(crate) fn type_parts(alloc: Global, key: &KitType) -> Result<Vec<Part<Kit>>,
 {
     match key {
         KitType::Integer(integer) => {
-            Ok(vec![in alloc; Part::Width(integer.signedness, Some(integer.width))]?)
+            Ok(vec![in alloc;
+                Part::Leaf(LeafValue::Width(integer.signedness, Some(integer.width))),
+            ]?)
         }
         KitType::Function(function) => {
             let inputs = list_of(alloc, &function.inputs)?;

@@ -21,7 +21,7 @@ use Rattle.text_frames.specs.declared.opened.OpenOperation.{OpenOperation}
 use Rattle.ir_forest.specs.Forest.{ActionSpan}
 use Rattle.ir_forest.specs.Building as building
 use Rattle.ir_forest.specs.Building.{Built, with_begin, names_behind}
-use Rattle.ir_grammar.specs.Nesting.{Position, at_root, behind_root_results, at_end, in_operation, in_operands, in_successor, in_region, in_header, in_argument, in_block, behind_results, in_type, in_attribute, in_list, in_item, move}
+use Rattle.ir_grammar.specs.Nesting.{Position, at_root, behind_root_results, at_end, in_operation, in_operands, in_successor, in_region, in_header, in_argument, in_block, behind_results, in_value, in_list, in_item, move}
 use Rattle.text_frames.specs.Opened.{IsFreshFrame}
 use Rattle.ir_formats.specs.Ordered.{Standing, moved_by}
 use Rattle.text_assembling.specs.Assembling.{Begun, HasMade, Stage, unmade_label, world_of}
@@ -32,6 +32,7 @@ use Rattle.ir_scopes.specs.Naming.{defined_by, labelled_by}
 use Rattle.text_assembling.proofs.Held.{held_list}
 use Rattle.text_assembling.proofs.Labelled.{unmade_begun, labelled_begun}
 use Rattle.text_assembling.proofs.SettledDefinitions.{numbers_begun, blocks_begun, settled_same}
+use Rattle.ir_print.specs.declared.format.ValueSort.TheVariants as sorts
 use Rattle.text_assembling.proofs.Settling.{stack_same, still_unrooted, waiting_longer}
 
 -- where something begins, what is around it stands there, or behind names of results, of which there may be none
@@ -58,8 +59,8 @@ root_becomes says values text w root in_region to ts e h = absurd h.1
 root_becomes says values text w root in_header to ts e h = absurd h.1
 root_becomes says values text w root in_argument to ts e h = absurd h.1
 root_becomes says values text w root behind_results to ts e h = absurd h.1
-root_becomes says values text w root in_type to ts e h = absurd h.1
-root_becomes says values text w root in_attribute to ts e h = absurd h.1
+root_becomes says values text w root (in_value sorts.«Type») to ts e h = absurd h.1
+root_becomes says values text w root (in_value sorts.Attribute) to ts e h = absurd h.1
 root_becomes says values text w root in_list to ts e h = absurd h.1
 root_becomes says values text w root in_item to ts e h = absurd h.1
 
@@ -126,8 +127,8 @@ module _ {D K A T : Type 0} (says : Saying K A T) (values : Values) (text : ℕ 
   raised_becomes f in_header to ts e h = subst (λ (p : Position). IsRaised says values text w f p ts) (sym e) h
   raised_becomes f in_argument to ts e h = subst (λ (p : Position). IsRaised says values text w f p ts) (sym e) h
   raised_becomes f behind_results to ts e h = subst (λ (p : Position). IsRaised says values text w f p ts) (sym e) h
-  raised_becomes f in_type to ts e h = subst (λ (p : Position). IsRaised says values text w f p ts) (sym e) h
-  raised_becomes f in_attribute to ts e h = subst (λ (p : Position). IsRaised says values text w f p ts) (sym e) h
+  raised_becomes f (in_value sorts.«Type») to ts e h = subst (λ (p : Position). IsRaised says values text w f p ts) (sym e) h
+  raised_becomes f (in_value sorts.Attribute) to ts e h = subst (λ (p : Position). IsRaised says values text w f p ts) (sym e) h
   raised_becomes f in_list to ts e h = subst (λ (p : Position). IsRaised says values text w f p ts) (sym e) h
   raised_becomes f in_item to ts e h = subst (λ (p : Position). IsRaised says values text w f p ts) (sym e) h
 
@@ -158,25 +159,25 @@ module _ (around : List Position) (next : Standing) where
   block_enters in_region h = (in_region, cc, refl)
   block_enters _ h = cc
 
-  pub type_enters : (p : Position) (n : ℕ) → moved_by (move p (act.BeginType n)) around ≡ Some next → Enters in_type p around next
+  pub type_enters : (p : Position) (n : ℕ) → moved_by (move p (act.Begin sorts.«Type» n)) around ≡ Some next → Enters (in_value sorts.«Type») p around next
   type_enters in_operation n h = (in_operation, cc, refl)
-  type_enters in_type n h = (in_type, cc, refl)
-  type_enters in_attribute n h = (in_attribute, cc, refl)
+  type_enters (in_value sorts.«Type») n h = ((in_value sorts.«Type»), cc, refl)
+  type_enters (in_value sorts.Attribute) n h = ((in_value sorts.Attribute), cc, refl)
   type_enters in_item n h = (in_item, cc, refl)
   type_enters in_argument n h = (in_header, cc, refl)
   type_enters _ n h = cc
 
-  pub attribute_enters : (p : Position) (n : ℕ) → moved_by (move p (act.BeginAttribute n)) around ≡ Some next → Enters in_attribute p around next
+  pub attribute_enters : (p : Position) (n : ℕ) → moved_by (move p (act.Begin sorts.Attribute n)) around ≡ Some next → Enters (in_value sorts.Attribute) p around next
   attribute_enters in_operation n h = (in_operation, cc, refl)
-  attribute_enters in_type n h = (in_type, cc, refl)
-  attribute_enters in_attribute n h = (in_attribute, cc, refl)
+  attribute_enters (in_value sorts.«Type») n h = ((in_value sorts.«Type»), cc, refl)
+  attribute_enters (in_value sorts.Attribute) n h = ((in_value sorts.Attribute), cc, refl)
   attribute_enters in_item n h = (in_item, cc, refl)
   attribute_enters _ n h = cc
 
   pub list_enters : (p : Position) → moved_by (move p act.BeginList) around ≡ Some next → Enters in_list p around next
   list_enters in_operation h = (in_operation, cc, refl)
-  list_enters in_type h = (in_type, cc, refl)
-  list_enters in_attribute h = (in_attribute, cc, refl)
+  list_enters (in_value sorts.«Type») h = ((in_value sorts.«Type»), cc, refl)
+  list_enters (in_value sorts.Attribute) h = ((in_value sorts.Attribute), cc, refl)
   list_enters in_item h = (in_item, cc, refl)
   list_enters _ h = cc
 

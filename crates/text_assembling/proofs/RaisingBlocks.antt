@@ -16,7 +16,7 @@ use Rattle.ir_program.specs.declared.handles.Operation.{Operation}
 use Rattle.ir_program.specs.declared.handles.Ptr.{Ptr}
 use Rattle.ir_grammar.specs.declared.grammar.Action.{Action}
 use Rattle.ir_grammar.specs.declared.grammar.Action.TheVariants as act
-use Rattle.ir_grammar.specs.Nesting.{Position, at_end, in_operation, in_region, in_header, in_argument, in_block, behind_results, move}
+use Rattle.ir_grammar.specs.Nesting.{Position, at_end, in_operation, in_region, in_header, in_argument, in_block, behind_results, in_value, move}
 use Rattle.ir_forest.specs.Forest.{ActionSpan}
 use Rattle.ir_forest.specs.Building as building
 use Rattle.ir_forest.specs.Building.{Built, with_end, behind, ended_tree, names_behind}
@@ -51,6 +51,7 @@ use Rattle.text_assembling.proofs.Labelled.{labelled_same, unmade_ended}
 use Rattle.text_assembling.proofs.Lists.{concat_put}
 use Rattle.text_assembling.proofs.SettledDefinitions as rising
 use Rattle.text_assembling.proofs.Settling.{IsStacked, stack_same, still_unrooted, waiting_kept}
+use Rattle.ir_print.specs.declared.format.ValueSort.TheVariants as sorts
 use Rattle.text_assembling.proofs.Stepping.{IsAnEnd}
 
 -- ---- what is open, in two parts
@@ -236,6 +237,8 @@ block_place in_block e h = refl
 block_place in_header e h = absurd h
 block_place in_argument e h = absurd h
 block_place behind_results e h = absurd h
+block_place (in_value sorts.«Type») e h = cc
+block_place (in_value sorts.Attribute) e h = cc
 block_place _ e h = cc
 
 pub pairs_none : {X Y : Type 0} (R : X → Y → Type 0) (xs : List X) → Pairs R xs [] → xs ≡ []
@@ -264,12 +267,12 @@ module _ (around : List Position) (next : Standing) (p : Position) where
   may_end x (inl e) m = not_a_block p (λ h. cc (h, (operation_out around next p (subst (λ (z : Action). moved_by (move p z) around ≡ Some next) e m)).1))
   may_end x (inr (inl e)) m = not_a_block p (λ h. cc (h, (region_out around next p (subst (λ (z : Action). moved_by (move p z) around ≡ Some next) e m)).1))
   may_end x (inr (inr (inl e))) m = block_may (subst (λ (z : Action). moved_by (move p z) around ≡ Some next) e m)
-  may_end x (inr (inr (inr (inl e)))) m = not_a_block p (λ h. cc (h, (type_out around next p (subst (λ (z : Action). moved_by (move p z) around ≡ Some next) e m)).1))
-  may_end x (inr (inr (inr (inr (inl e))))) m = not_a_block p (λ h. cc (h, (attribute_out around next p (subst (λ (z : Action). moved_by (move p z) around ≡ Some next) e m)).1))
-  may_end x (inr (inr (inr (inr (inr (inl e)))))) m = not_a_block p (λ h. cc (h, (operands_out around next p (subst (λ (z : Action). moved_by (move p z) around ≡ Some next) e m)).1))
-  may_end x (inr (inr (inr (inr (inr (inr (inl e))))))) m = not_a_block p (λ h. cc (h, (item_out around next p (subst (λ (z : Action). moved_by (move p z) around ≡ Some next) e m)).1))
-  may_end x (inr (inr (inr (inr (inr (inr (inr (inl e)))))))) m = not_a_block p (λ h. cc (h, (list_out around next p (subst (λ (z : Action). moved_by (move p z) around ≡ Some next) e m)).1))
-  may_end x (inr (inr (inr (inr (inr (inr (inr (inr e)))))))) m = not_a_block p (λ h. cc (h, (edge_out around next p (subst (λ (z : Action). moved_by (move p z) around ≡ Some next) e m)).1))
+  may_end x (inr (inr (inr (inl (sorts.«Type», e))))) m = not_a_block p (λ h. cc (h, (type_out around next p (subst (λ (z : Action). moved_by (move p z) around ≡ Some next) e m)).1))
+  may_end x (inr (inr (inr (inl (sorts.Attribute, e))))) m = not_a_block p (λ h. cc (h, (attribute_out around next p (subst (λ (z : Action). moved_by (move p z) around ≡ Some next) e m)).1))
+  may_end x (inr (inr (inr (inr (inl e))))) m = not_a_block p (λ h. cc (h, (operands_out around next p (subst (λ (z : Action). moved_by (move p z) around ≡ Some next) e m)).1))
+  may_end x (inr (inr (inr (inr (inr (inl e)))))) m = not_a_block p (λ h. cc (h, (item_out around next p (subst (λ (z : Action). moved_by (move p z) around ≡ Some next) e m)).1))
+  may_end x (inr (inr (inr (inr (inr (inr (inl e))))))) m = not_a_block p (λ h. cc (h, (list_out around next p (subst (λ (z : Action). moved_by (move p z) around ≡ Some next) e m)).1))
+  may_end x (inr (inr (inr (inr (inr (inr (inr e))))))) m = not_a_block p (λ h. cc (h, (edge_out around next p (subst (λ (z : Action). moved_by (move p z) around ≡ Some next) e m)).1))
 
 -- ---- a region that ends
 

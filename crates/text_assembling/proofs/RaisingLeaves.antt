@@ -19,7 +19,7 @@ use Rattle.text_frames.specs.declared.opened.Open.{Open}
 use Rattle.ir_forest.specs.Forest.{ActionSpan}
 use Rattle.ir_forest.specs.Building.{Built, behind, with_leaf, names_behind}
 use Rattle.ir_forest.specs.Meaning.{pieces_in, operands_in, arguments_in, tokens_in, successors_in, by_operands, by_successor, by_region, by_label}
-use Rattle.ir_grammar.specs.Nesting.{Position, at_root, behind_root_results, in_operation, in_operands, in_successor, in_header, in_argument, in_block, behind_results, in_type, in_attribute, in_item, move}
+use Rattle.ir_grammar.specs.Nesting.{Position, at_root, behind_root_results, in_operation, in_operands, in_successor, in_header, in_argument, in_block, behind_results, in_value, in_item, move}
 use Rattle.text_frames.specs.Opened.{HasOneMoreName, HasBody}
 use Rattle.ir_formats.specs.Ordered.{Standing, moved_by}
 use Rattle.text_frames.specs.Frames.{sort_at, sort_of, TakesParts}
@@ -36,6 +36,8 @@ use Rattle.text_assembling.proofs.SettledDefinitions.{numbers_here, blocks_here,
 use Rattle.text_assembling.proofs.Settling.{stack_same, still_unrooted, waiting_longer, world_named}
 use Rattle.text_assembling.proofs.Labelled.{unmade_same, unmade_here, labelled_same}
 use Rattle.text_assembling.proofs.Held.{held_list}
+use Rattle.ir_print.specs.declared.format.LeafSort.{LeafSort}
+use Rattle.ir_print.specs.declared.format.ValueSort.TheVariants as sorts
 use Rattle.text_assembling.proofs.Stepping.{lone}
 
 -- the names, where an action adds none
@@ -62,15 +64,15 @@ pub record IsNeutral (a : Action) : Type 0 where
 -- where parts are taken, nothing is named
 pub unnamed_parts : (at : Position) → TakesParts (sort_at at) → (ts : Trees ActionSpan) → named_tokens at ts ≡ []
 unnamed_parts in_operation h ts = refl
-unnamed_parts in_type h ts = refl
-unnamed_parts in_attribute h ts = refl
+unnamed_parts (in_value sorts.«Type») h ts = refl
+unnamed_parts (in_value sorts.Attribute) h ts = refl
 unnamed_parts in_item h ts = refl
 unnamed_parts _ h ts = absurd h
 
 pub no_root_parts : {P : Type 0} (at : Position) → TakesParts (sort_at at) → (names : List ℕ) → IsAroundRoot at names → P
 no_root_parts in_operation h names r = absurd r
-no_root_parts in_type h names r = absurd r
-no_root_parts in_attribute h names r = absurd r
+no_root_parts (in_value sorts.«Type») h names r = absurd r
+no_root_parts (in_value sorts.Attribute) h names r = absurd r
 no_root_parts in_item h names r = absurd r
 no_root_parts _ h names r = absurd h
 
@@ -156,14 +158,8 @@ module _ {D K A T : Type 0} (says : Saying K A T) (values : Values) (text : ℕ 
         operands = rw made has.operands;
       })
 
-pub neutral_name : IsNeutral act.Name
-neutral_name = record { region = λ x y. refl; block = λ x y. refl; operand = λ xs. refl; edge = λ xs. refl }
-
-pub neutral_number : IsNeutral act.Number
-neutral_number = record { region = λ x y. refl; block = λ x y. refl; operand = λ xs. refl; edge = λ xs. refl }
-
-pub neutral_width : IsNeutral act.Width
-neutral_width = record { region = λ x y. refl; block = λ x y. refl; operand = λ xs. refl; edge = λ xs. refl }
+pub neutral_leaf : (sort : LeafSort) → IsNeutral (act.Leaf sort)
+neutral_leaf sort = record { region = λ x y. refl; block = λ x y. refl; operand = λ xs. refl; edge = λ xs. refl }
 
 -- ---- operands
 

@@ -17,6 +17,7 @@ use Rattle.text_frames.specs.Worlds.{NameTokens}
 use Rattle.text_frames.proofs.Moving.{operation_out, region_out, block_out, type_out, attribute_out, operands_out, edge_out, item_out, list_out}
 use Rattle.text_assembling.proofs.RaisingBlocks.{may_end}
 use Rattle.text_assembling.proofs.RaisingLeaves.{none_more}
+use Rattle.ir_print.specs.declared.format.ValueSort.TheVariants as sorts
 use Rattle.text_assembling.proofs.Stepping.{IsAnEnd}
 
 pub ok_both : {E : Type 0} (P Q : Type 0) (r : Result (Unit {0}) E) → OnOk r P → OnOk r Q → OnOk r (P × Q)
@@ -29,12 +30,12 @@ module _ (around : List Position) (next : Standing) (p : Position) where
   ends_out x (inl e) m = (operation_out around next p (subst (λ (z : Action). moved_by (move p z) around ≡ Some next) e m)).0
   ends_out x (inr (inl e)) m = (region_out around next p (subst (λ (z : Action). moved_by (move p z) around ≡ Some next) e m)).0
   ends_out x (inr (inr (inl e))) m = (block_out around next p (subst (λ (z : Action). moved_by (move p z) around ≡ Some next) e m)).0
-  ends_out x (inr (inr (inr (inl e)))) m = (type_out around next p (subst (λ (z : Action). moved_by (move p z) around ≡ Some next) e m)).0
-  ends_out x (inr (inr (inr (inr (inl e))))) m = (attribute_out around next p (subst (λ (z : Action). moved_by (move p z) around ≡ Some next) e m)).0
-  ends_out x (inr (inr (inr (inr (inr (inl e)))))) m = (operands_out around next p (subst (λ (z : Action). moved_by (move p z) around ≡ Some next) e m)).0
-  ends_out x (inr (inr (inr (inr (inr (inr (inl e))))))) m = (item_out around next p (subst (λ (z : Action). moved_by (move p z) around ≡ Some next) e m)).0
-  ends_out x (inr (inr (inr (inr (inr (inr (inr (inl e)))))))) m = (list_out around next p (subst (λ (z : Action). moved_by (move p z) around ≡ Some next) e m)).0
-  ends_out x (inr (inr (inr (inr (inr (inr (inr (inr e)))))))) m = (edge_out around next p (subst (λ (z : Action). moved_by (move p z) around ≡ Some next) e m)).0
+  ends_out x (inr (inr (inr (inl (sorts.«Type», e))))) m = (type_out around next p (subst (λ (z : Action). moved_by (move p z) around ≡ Some next) e m)).0
+  ends_out x (inr (inr (inr (inl (sorts.Attribute, e))))) m = (attribute_out around next p (subst (λ (z : Action). moved_by (move p z) around ≡ Some next) e m)).0
+  ends_out x (inr (inr (inr (inr (inl e))))) m = (operands_out around next p (subst (λ (z : Action). moved_by (move p z) around ≡ Some next) e m)).0
+  ends_out x (inr (inr (inr (inr (inr (inl e)))))) m = (item_out around next p (subst (λ (z : Action). moved_by (move p z) around ≡ Some next) e m)).0
+  ends_out x (inr (inr (inr (inr (inr (inr (inl e))))))) m = (list_out around next p (subst (λ (z : Action). moved_by (move p z) around ≡ Some next) e m)).0
+  ends_out x (inr (inr (inr (inr (inr (inr (inr e))))))) m = (edge_out around next p (subst (λ (z : Action). moved_by (move p z) around ≡ Some next) e m)).0
 
 module _ {D K A T : Type 0} (says : Saying K A T) (values : Values) (text : ℕ → List ℕ) (start : Seen K A T) (counter : ℕ) (t : Stage K A T) (c : Assembler D K A T) (b : Built) (next : Standing) (k : ℕ) (names : NameTokens) (r : Result (Unit {0}) AssemblyFault) where
   -- what is made after an action at a token
@@ -54,9 +55,9 @@ module _ {D K A T : Type 0} (says : Saying K A T) (values : Values) (text : ℕ 
       by x (inl e) y = made_by x act.EndOperation e y
       by x (inr (inl e)) y = made_by x act.EndRegion e y
       by x (inr (inr (inl e))) y = made_by x act.EndBlock e y
-      by x (inr (inr (inr (inl e)))) y = made_by x act.EndType e y
-      by x (inr (inr (inr (inr (inl e))))) y = made_by x act.EndAttribute e y
-      by x (inr (inr (inr (inr (inr (inl e)))))) y = made_by x act.EndOperands e y
-      by x (inr (inr (inr (inr (inr (inr (inl e))))))) y = made_by x act.EndItem e y
-      by x (inr (inr (inr (inr (inr (inr (inr (inl e)))))))) y = made_by x act.EndList e y
-      by x (inr (inr (inr (inr (inr (inr (inr (inr e)))))))) y = made_by x act.EndSuccessor e y
+      by x (inr (inr (inr (inl (sorts.«Type», e))))) y = made_by x (act.End sorts.«Type») e y
+      by x (inr (inr (inr (inl (sorts.Attribute, e))))) y = made_by x (act.End sorts.Attribute) e y
+      by x (inr (inr (inr (inr (inl e))))) y = made_by x act.EndOperands e y
+      by x (inr (inr (inr (inr (inr (inl e)))))) y = made_by x act.EndItem e y
+      by x (inr (inr (inr (inr (inr (inr (inl e))))))) y = made_by x act.EndList e y
+      by x (inr (inr (inr (inr (inr (inr (inr e))))))) y = made_by x act.EndSuccessor e y

@@ -8,7 +8,7 @@ use Rattle.ir_names.specs.Tree.{Trees, node}
 use Rattle.ir_base.specs.declared.types.TypeHandle.{TypeHandle}
 use Rattle.ir_print.specs.declared.format.Part.{Part}
 use Rattle.ir_print.specs.declared.format.Part.TheVariants as part
-use Rattle.ir_print.specs.Pieces.{Values, ValueTree, Pieces, type_of_kind, attribute_of_kind}
+use Rattle.ir_print.specs.Pieces.{Values, ValueTree, Pieces, value_of_kind}
 use Rattle.ir_print.specs.Shown.{Saying, Pairs, ShowsType, ShowsAttribute, ShowsParts}
 use Rattle.text_dialect.specs.Seen.{Seen}
 use Rattle.ir_program.specs.declared.handles.Ptr.{Ptr}
@@ -25,7 +25,7 @@ use Rattle.ir_forest.specs.Forest.{ActionSpan}
 use Rattle.ir_forest.specs.Building as building
 use Rattle.ir_forest.specs.Building.{Built, with_end, behind, ended_tree, names_behind}
 use Rattle.ir_forest.specs.Meaning.{pieces_in, tokens_in, operands_in, successors_in, arguments_in, typed}
-use Rattle.ir_grammar.specs.Nesting.{Position, in_operation, in_operands, in_successor, in_header, in_argument, in_type, in_attribute, in_list, in_item}
+use Rattle.ir_grammar.specs.Nesting.{Position, in_operation, in_operands, in_successor, in_header, in_argument, in_value, in_list, in_item}
 use Rattle.text_frames.specs.Opened.{HasPut}
 use Rattle.ir_formats.specs.Ordered.{Standing, moved_out}
 use Rattle.text_frames.specs.Frames.{FrameSort, some_operands, an_edge, a_type, an_attribute, a_list, an_item, sort_at, sort_of, TakesParts, TakesTypes, EndsAt, Begins, SaysParts, Contains, Ending}
@@ -41,6 +41,7 @@ use Rattle.text_assembling.proofs.RaisingLeaves.{among_two, IsNeutral, raises_mo
 use Rattle.text_assembling.proofs.Labelled.{unmade_same, unmade_ended}
 use Rattle.text_assembling.proofs.SettledDefinitions.{numbers_ended, blocks_ended}
 use Rattle.text_assembling.proofs.Settling.{still_unrooted}
+use Rattle.ir_print.specs.declared.format.ValueSort.TheVariants as sorts
 use Rattle.text_frames.specs.declared.assembly.Assembly.{Assembly}
 
 -- values, and operands
@@ -67,8 +68,8 @@ no_label (body.Block o) k h = absurd h
 no_label _ k h = refl
 
 value_unnamed : (p : Position) (ts : Trees ActionSpan) → IsValue (sort_at p) → named_tokens p ts ≡ []
-value_unnamed in_type ts h = refl
-value_unnamed in_attribute ts h = refl
+value_unnamed (in_value sorts.«Type») ts h = refl
+value_unnamed (in_value sorts.Attribute) ts h = refl
 value_unnamed in_list ts h = refl
 value_unnamed in_item ts h = refl
 value_unnamed in_operands ts h = refl
@@ -77,8 +78,8 @@ value_unnamed _ ts h = absurd h
 
 begun_parts : (p : Position) → TakesParts (sort_at p) → begun_at p ≡ p
 begun_parts in_operation h = refl
-begun_parts in_type h = refl
-begun_parts in_attribute h = refl
+begun_parts (in_value sorts.«Type») h = refl
+begun_parts (in_value sorts.Attribute) h = refl
 begun_parts in_item h = refl
 begun_parts _ h = absurd h
 
@@ -139,11 +140,11 @@ module _ {D K A T : Type 0} (says : Saying K A T) (values : Values) (text : ℕ 
 -- ---- a type in a header
 
 module _ {D K A T : Type 0} (says : Saying K A T) (values : Values) (text : ℕ → List ℕ) (w : PartialModule K A T) (g h : Open D K A T) (ts us : Trees ActionSpan) (kind first last k : ℕ) (ty : TypeHandle)
-    (put : HasPut g h g.body (part.«Type» ty) k) (shows : ShowsType says w.ctx.types ty (node (type_of_kind kind) (pieces_in values text us))) where
-  header_type : IsHeader says values text w g in_argument ts → IsHeader says values text w h in_header (behind ts (node (record { action = act.BeginType kind; first = first; last = last }) us))
+    (put : HasPut g h g.body (part.«Type» ty) k) (shows : ShowsType says w.ctx.types ty (node (value_of_kind sorts.«Type» kind) (pieces_in values text us))) where
+  header_type : IsHeader says values text w g in_argument ts → IsHeader says values text w h in_header (behind ts (node (record { action = act.Begin sorts.«Type» kind; first = first; last = last }) us))
   header_type old =
-      let step : ActionSpan = record { action = act.BeginType kind; first = first; last = last } in
-      let x : ValueTree = node (type_of_kind kind) (pieces_in values text us) in
+      let step : ActionSpan = record { action = act.Begin sorts.«Type» kind; first = first; last = last } in
+      let x : ValueTree = node (value_of_kind sorts.«Type» kind) (pieces_in values text us) in
       let before : List ValueTree = listed (pieces_in values text ts) in
       let front : List ℕ = old.typed_so.0 in
       let named : ℕ = last_argument 0 ts in
@@ -166,13 +167,13 @@ module _ {D K A T : Type 0} (says : Saying K A T) (values : Values) (text : ℕ 
         typed_so = ap length tokens_so ∙ (length-append front (named ∷ []) ∙ (ap (λ (n : ℕ). n + 1) many ∙ (sym (length-append before (x ∷ [])) ∙ (ap length (sym listed_so) ∙ listed_length (pieces_in values text (behind ts (node step us)))))));
       }
 
-  block_type : (p : Option (Ptr BasicBlock)) → RaisesBlock says values text w p g in_argument ts → RaisesBlock says values text w p h in_header (behind ts (node (record { action = act.BeginType kind; first = first; last = last }) us))
+  block_type : (p : Option (Ptr BasicBlock)) → RaisesBlock says values text w p g in_argument ts → RaisesBlock says values text w p h in_header (behind ts (node (record { action = act.Begin sorts.«Type» kind; first = first; last = last }) us))
   block_type None old = header_type old
   block_type (Some p) old = absurd old.among
 
-  pub raised_type : IsRaised says values text w g in_argument ts → IsRaised says values text w h in_header (behind ts (node (record { action = act.BeginType kind; first = first; last = last }) us))
+  pub raised_type : IsRaised says values text w g in_argument ts → IsRaised says values text w h in_header (behind ts (node (record { action = act.Begin sorts.«Type» kind; first = first; last = last }) us))
   raised_type old =
-      let step : ActionSpan = record { action = act.BeginType kind; first = first; last = last } in
+      let step : ActionSpan = record { action = act.Begin sorts.«Type» kind; first = first; last = last } in
       let tokens_so : argument_tokens (behind ts (node step us)) ≡ argument_tokens ts = argument_tokens_behind ts step us ∙ append-nil (argument_tokens ts) in
       record {
         made = subst (λ (x : Body D K A T). Raises says values text w x h in_header (behind ts (node step us))) (sym put.body)
@@ -185,15 +186,15 @@ module _ {D K A T : Type 0} (says : Saying K A T) (values : Values) (text : ℕ 
 type_place : (q : Position) → TakesTypes q → (q ≡ in_header) ⊎ TakesParts (sort_at q)
 type_place in_header h = inl refl
 type_place in_operation h = inr tt
-type_place in_type h = inr tt
-type_place in_attribute h = inr tt
+type_place (in_value sorts.«Type») h = inr tt
+type_place (in_value sorts.Attribute) h = inr tt
 type_place in_item h = inr tt
 type_place _ h = absurd h
 
-neutral_type : (n : ℕ) → IsNeutral (act.BeginType n)
+neutral_type : (n : ℕ) → IsNeutral (act.Begin sorts.«Type» n)
 neutral_type n = record { region = λ x y. refl; block = λ x y. refl; operand = λ xs. refl; edge = λ xs. refl }
 
-neutral_attribute : (n : ℕ) → IsNeutral (act.BeginAttribute n)
+neutral_attribute : (n : ℕ) → IsNeutral (act.Begin sorts.Attribute n)
 neutral_attribute n = record { region = λ x y. refl; block = λ x y. refl; operand = λ xs. refl; edge = λ xs. refl }
 
 neutral_list : IsNeutral act.BeginList
@@ -207,15 +208,15 @@ module _ {D K A T : Type 0} (says : Saying K A T) (values : Values) (text : ℕ 
 
   -- a type that ends is a part, or that of the last argument
   pub type_raised : (kind first : ℕ) → f.body ≡ body.«Type» kind
-      → ((ps : Pieces) → ShowsParts says s.ctx.types f.content.value.parts.items ps → OnOk r ((values.refused_type kind ps ≡ None) × (ty : TypeHandle) × ShowsType says t.ctx.types ty (node (type_of_kind kind) ps) × HasPut g c.here g.body (part.«Type» ty) first))
+      → ((ps : Pieces) → ShowsParts says s.ctx.types f.content.value.parts.items ps → OnOk r ((values.refused_type kind ps ≡ None) × (ty : TypeHandle) × ShowsType says t.ctx.types ty (node (value_of_kind sorts.«Type» kind) ps) × HasPut g c.here g.body (part.«Type» ty) first))
       → OnOk r (HasMade says values text start counter t c (with_end b.here b.around last) next names)
   type_raised kind first is new =
       value_ends says values text start counter s t whole c f g rest names is_f is_around kept only made b at next last r holds has out (subst (λ (x : Body D K A T). IsValue (sort_of x)) (sym is) tt)
       (λ o q ending inner outer. (
       let place : TakesTypes q = subst (λ (x : Body D K A T). EndsAt (sort_of x) q) is ending.begun.ends in
-      let begins : o.action ≡ act.BeginType kind = subst (λ (x : Body D K A T). Begins x o.action) is ending.begun.begins in
+      let begins : o.action ≡ act.Begin sorts.«Type» kind = subst (λ (x : Body D K A T). Begins x o.action) is ending.begun.begins in
       let parts : SaysParts says values text s.ctx.types f.content.value b.here = subst (λ (x : Body D K A T). Contains says values text s.ctx.types x f.content.value b.here) is ending.frame.contains in
-      on_ok_weaker r (λ (x : (values.refused_type kind (pieces_in values text b.here) ≡ None) × (ty : TypeHandle) × ShowsType says t.ctx.types ty (node (type_of_kind kind) (pieces_in values text b.here)) × HasPut g c.here g.body (part.«Type» ty) first).
+      on_ok_weaker r (λ (x : (values.refused_type kind (pieces_in values text b.here) ≡ None) × (ty : TypeHandle) × ShowsType says t.ctx.types ty (node (value_of_kind sorts.«Type» kind) (pieces_in values text b.here)) × HasPut g c.here g.body (part.«Type» ty) first).
       elim (type_place q place) [
         | inl e ↦ record {
           inner = λ i. subst (λ (p : Position). IsAroundRoot (begun_at p) (names_behind [] o.before)) e i;
@@ -231,15 +232,15 @@ module _ {D K A T : Type 0} (says : Saying K A T) (values : Values) (text : ℕ 
       ]) (new (pieces_in values text b.here) parts.parts)))
 
   pub attribute_raised : (kind first : ℕ) → f.body ≡ body.Attribute kind
-      → ((ps : Pieces) → ShowsParts says s.ctx.types f.content.value.parts.items ps → OnOk r ((values.refused_attribute kind ps ≡ None) × (attr : A) × ShowsAttribute says t.ctx.types attr (node (attribute_of_kind kind) (values.canonical kind ps)) × HasPut g c.here g.body (part.Attribute attr) first))
+      → ((ps : Pieces) → ShowsParts says s.ctx.types f.content.value.parts.items ps → OnOk r ((values.refused_attribute kind ps ≡ None) × (attr : A) × ShowsAttribute says t.ctx.types attr (node (value_of_kind sorts.Attribute kind) (values.canonical kind ps)) × HasPut g c.here g.body (part.Attribute attr) first))
       → OnOk r (HasMade says values text start counter t c (with_end b.here b.around last) next names)
   attribute_raised kind first is new =
       value_ends says values text start counter s t whole c f g rest names is_f is_around kept only made b at next last r holds has out (subst (λ (x : Body D K A T). IsValue (sort_of x)) (sym is) tt)
       (λ o q ending inner outer. (
       let takes : TakesParts (sort_at q) = subst (λ (x : Body D K A T). EndsAt (sort_of x) q) is ending.begun.ends in
-      let begins : o.action ≡ act.BeginAttribute kind = subst (λ (x : Body D K A T). Begins x o.action) is ending.begun.begins in
+      let begins : o.action ≡ act.Begin sorts.Attribute kind = subst (λ (x : Body D K A T). Begins x o.action) is ending.begun.begins in
       let parts : SaysParts says values text s.ctx.types f.content.value b.here = subst (λ (x : Body D K A T). Contains says values text s.ctx.types x f.content.value b.here) is ending.frame.contains in
-      on_ok_weaker r (λ (x : (values.refused_attribute kind (pieces_in values text b.here) ≡ None) × (attr : A) × ShowsAttribute says t.ctx.types attr (node (attribute_of_kind kind) (values.canonical kind (pieces_in values text b.here))) × HasPut g c.here g.body (part.Attribute attr) first).
+      on_ok_weaker r (λ (x : (values.refused_attribute kind (pieces_in values text b.here) ≡ None) × (attr : A) × ShowsAttribute says t.ctx.types attr (node (value_of_kind sorts.Attribute kind) (values.canonical kind (pieces_in values text b.here))) × HasPut g c.here g.body (part.Attribute attr) first).
       part_leaves says values text start counter s t whole c f g rest names is_f is_around kept only made o q b.here last first (part.Attribute x.1)
       (subst IsNeutral (sym begins) (neutral_attribute kind)) takes ending.outer.sort x.3 outer) (new (pieces_in values text b.here) parts.parts)))
 

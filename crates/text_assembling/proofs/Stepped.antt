@@ -1,23 +1,19 @@
 -- Where each action leads to.
-use Rattle.std.proofs.Common.{◌≡◌, ◌∙◌, ◌⊎◌, inl, inr, ℕ, ◌+◌, ◌-◌, ◌≤◌, ◌^◌, Bool, true, List, [], ◌∷◌, ◌++◌, length, reverse, Option, Some, None, Result, Ok, Err, OnOk, slice_get, Vec, refl, sym, ap, subst, append-nil}
+use Rattle.std.proofs.Common.{◌≡◌, ◌∙◌, ◌⊎◌, inl, inr, ℕ, ◌+◌, ◌-◌, ◌≤◌, ◌^◌, true, List, [], ◌∷◌, ◌++◌, length, reverse, Some, None, Result, Ok, Err, OnOk, slice_get, Vec, refl, sym, ap, subst, append-nil}
 use Rattle.std.specs.Global.{Global}
 use Rattle.ir_context.specs.Known.{AreKnownIn}
-use Rattle.ir_names.specs.Identifier.{text_of}
 use Rattle.ir_names.specs.Text.{is_identifier}
-use Rattle.ir_names.specs.declared.identifier.Identifier.{Identifier}
-use Rattle.ir_names.specs.declared.kinds.Signedness.{Signedness}
-use Rattle.ir_print.specs.Pieces.{Values, number, width}
-use Rattle.ir_print.specs.Shown.{Saying, IsNumber, IsWidth}
-use Rattle.ir_print.specs.declared.format.Number.{Number}
+use Rattle.ir_print.specs.Pieces.{Values}
+use Rattle.ir_print.specs.Shown.{Saying, IsLeaf}
 use Rattle.ir_print.specs.declared.format.Part.{Part}
 use Rattle.ir_print.specs.declared.format.Part.TheVariants as part
 use Rattle.ir_program.specs.declared.handles.BasicBlock.{BasicBlock}
 use Rattle.ir_program.specs.declared.handles.Ptr.{Ptr}
 use Rattle.ir_grammar.specs.declared.grammar.Action.{Action}
 use Rattle.ir_grammar.specs.declared.grammar.Action.TheVariants as act
-use Rattle.ir_grammar.specs.Nesting.{in_type, in_attribute, in_list, in_item, move}
+use Rattle.ir_grammar.specs.Nesting.{in_value, in_list, in_item, move}
 use Rattle.ir_forest.specs.Building.{fault_after, fault_at_end, with_end}
-use Rattle.ir_forest.specs.Meaning.{number_in, width_in}
+use Rattle.ir_forest.specs.Meaning.{leaf_in}
 use Rattle.ir_formats.specs.Ordered.{Standing, moved_by}
 use Rattle.text_frames.specs.building.Kept.{KeepsKeys}
 use Rattle.text_frames.specs.declared.opened.Body.TheVariants as body
@@ -28,18 +24,22 @@ use Rattle.text_frames.specs.Makes.{types_in}
 use Rattle.text_frames.specs.Opened.{HasBody, HasOneMoreName, HasPut}
 use Rattle.text_frames.proofs.Framing.{innermost}
 use Rattle.text_frames.proofs.Moving as moving
-use Rattle.text_frames.proofs.Moving.{type_begins, name_stays, number_stays, width_stays, result_goes, argument_goes, header_goes, operand_goes}
+use Rattle.text_frames.proofs.Moving.{type_begins, leaf_stays, result_goes, argument_goes, header_goes, operand_goes}
 use Rattle.text_assembling.specs.declared.assembling.Assembler.{Assembler}
-use Rattle.text_assembling.specs.Assembling.{Begun, KeepsAround, NamesOne, Stage, world_of}
+use Rattle.text_assembling.specs.Assembling.{Begun, KeepsAround, NamesOne, Stage, value_body, world_of}
 use Rattle.text_assembling.specs.Steps.{HasEnded, HasStepped, IsAt, MakesBlock, ActionIsInPlace, MayGoOut, Progress, progress_after, progress_ended}
 use Rattle.text_assembling.proofs.RaisingBegins.{type_enters, attribute_enters, list_enters, item_enters, value_begins, operation_begins, region_begins, operands_begin, edge_begins, block_begins}
 use Rattle.text_assembling.proofs.Outside.{around_block}
 use Rattle.text_assembling.proofs.RaisingBlocks.{may_end}
 use Rattle.text_assembling.proofs.RaisingHeaders.{header_at, header_full, header_known, header_made, header_spelt}
-use Rattle.text_assembling.proofs.RaisingLeaves.{neutral_name, neutral_number, neutral_width, none_more, part_made, operand_made, handed_on_made, result_made, argument_made}
+use Rattle.text_assembling.proofs.RaisingLeaves.{neutral_leaf, none_more, part_made, operand_made, handed_on_made, result_made, argument_made}
 use Rattle.text_assembling.proofs.RaisingSteps.{ends_out}
 use Rattle.text_assembling.proofs.Settling.{unrooted}
-use Rattle.text_assembling.proofs.Stepping.{IsAnEnd, begins, went_name, went_number, went_width, went_result, went_argument, the_block, went_header, the_operands, went_operand, the_edge, went_handed_on}
+use Rattle.ir_print.specs.declared.format.LeafValue.{LeafValue}
+use Rattle.ir_print.specs.declared.format.LeafSort.{LeafSort}
+use Rattle.ir_print.specs.declared.format.ValueSort.{ValueSort}
+use Rattle.ir_print.specs.declared.format.ValueSort.TheVariants as sorts
+use Rattle.text_assembling.proofs.Stepping.{IsAnEnd, begins, went_leaf, went_result, went_argument, the_block, went_header, the_operands, went_operand, the_edge, went_handed_on}
 
 -- what is well on both counts is so together
 pub on_ok_both : {X E P Q R : Type 0} (r : Result X E) → OnOk r P → OnOk r Q → (P → Q → R) → OnOk r R
@@ -79,12 +79,12 @@ module _ {D K A T : Type 0} (says : Saying K A T) (values : Values) (text : ℕ 
   ended_after g next k x (inl e) w = at_end g next k x act.EndOperation e (w.0, ended_at g next k w.1)
   ended_after g next k x (inr (inl e)) w = at_end g next k x act.EndRegion e (refl, ended_at g next k w.1)
   ended_after g next k x (inr (inr (inl e))) w = at_end g next k x act.EndBlock e (refl, ended_at g next k w.1)
-  ended_after g next k x (inr (inr (inr (inl e)))) w = at_end g next k x act.EndType e (w.0, ended_at g next k w.1)
-  ended_after g next k x (inr (inr (inr (inr (inl e))))) w = at_end g next k x act.EndAttribute e (w.0, ended_at g next k w.1)
-  ended_after g next k x (inr (inr (inr (inr (inr (inl e)))))) w = at_end g next k x act.EndOperands e (refl, ended_at g next k w.1)
-  ended_after g next k x (inr (inr (inr (inr (inr (inr (inl e))))))) w = at_end g next k x act.EndItem e (refl, ended_at g next k w.1)
-  ended_after g next k x (inr (inr (inr (inr (inr (inr (inr (inl e)))))))) w = at_end g next k x act.EndList e (refl, ended_at g next k w.1)
-  ended_after g next k x (inr (inr (inr (inr (inr (inr (inr (inr e)))))))) w = at_end g next k x act.EndSuccessor e (refl, ended_at g next k w.1)
+  ended_after g next k x (inr (inr (inr (inl (sorts.«Type», e))))) w = at_end g next k x (act.End sorts.«Type») e (w.0, ended_at g next k w.1)
+  ended_after g next k x (inr (inr (inr (inl (sorts.Attribute, e))))) w = at_end g next k x (act.End sorts.Attribute) e (w.0, ended_at g next k w.1)
+  ended_after g next k x (inr (inr (inr (inr (inl e))))) w = at_end g next k x act.EndOperands e (refl, ended_at g next k w.1)
+  ended_after g next k x (inr (inr (inr (inr (inr (inl e)))))) w = at_end g next k x act.EndItem e (refl, ended_at g next k w.1)
+  ended_after g next k x (inr (inr (inr (inr (inr (inr (inl e))))))) w = at_end g next k x act.EndList e (refl, ended_at g next k w.1)
+  ended_after g next k x (inr (inr (inr (inr (inr (inr (inr e))))))) w = at_end g next k x act.EndSuccessor e (refl, ended_at g next k w.1)
 
   pub stepped_end : (x : Action) → IsAnEnd x → HasEnded says values s a t c → HasStepped says values text s a t c x
   stepped_end x is ended g next at goes = ended_after g next (a.taken - 1) x is (ended text g next at (goes_out text a g next x is goes))
@@ -157,29 +157,13 @@ module _ {D K A T : Type 0} (says : Saying K A T) (values : Values) (text : ℕ 
   sort_here : (g : Progress K A T) → IsAt says values text s a g → sort_of a.here.body ≡ sort_at g.standing.here
   sort_here g at = (innermost says values text s.ctx.types a.here g.standing.here g.built.here (reverse a.around.items) g.built.around g.standing.around at.holds).sort
 
-  pub stepped_name : KeepsAround a c → c.made ≡ a.made → (id : Identifier) → text_of id ≡ text (a.taken - 1) → HasPut a.here c.here a.here.body (part.Name id) (a.taken - 1)
-      → HasStepped says values text s a s c act.Name
-  stepped_name kept made id spelt put g next at goes =
-      let none_yet = unrooted g.standing.here act.Name g.standing.around next a.made.root goes.leads at.made.unrooted in
-      let stays = name_stays g.standing.around next g.standing.here goes.leads in
-      let w = went_name says values text s.ctx.types a c g.built g.standing next (a.taken - 1) at.holds (text (a.taken - 1)) id refl stays kept spelt put in
-      (w.0, record { holds = w.1; made = part_made says values text g.start g.first s a c g.built g.standing next (a.taken - 1) g.names at.made none_yet act.Name neutral_name (sort_here g at) stays kept made put.body put.first put.numbers })
-
-  pub stepped_number : KeepsAround a c → c.made ≡ a.made → (negative : Bool) (magnitude : ℕ) (n : Option Number) → number_in (text (a.taken - 1)) ≡ number negative magnitude → IsNumber n negative magnitude
-      → HasPut a.here c.here a.here.body (part.Number n) (a.taken - 1) → HasStepped says values text s a s c act.Number
-  stepped_number kept made negative magnitude n says_it shown put g next at goes =
-      let none_yet = unrooted g.standing.here act.Number g.standing.around next a.made.root goes.leads at.made.unrooted in
-      let stays = number_stays g.standing.around next g.standing.here goes.leads in
-      let w = went_number says values text s.ctx.types a c g.built g.standing next (a.taken - 1) at.holds (text (a.taken - 1)) negative magnitude n refl stays kept says_it shown put in
-      (w.0, record { holds = w.1; made = part_made says values text g.start g.first s a c g.built g.standing next (a.taken - 1) g.names at.made none_yet act.Number neutral_number (sort_here g at) stays kept made put.body put.first put.numbers })
-
-  pub stepped_width : KeepsAround a c → c.made ≡ a.made → (sign : Signedness) (bits : ℕ) (n : Option ℕ) → width_in (text (a.taken - 1)) ≡ width sign bits → IsWidth n bits
-      → HasPut a.here c.here a.here.body (part.Width sign n) (a.taken - 1) → HasStepped says values text s a s c act.Width
-  stepped_width kept made sign bits n says_it shown put g next at goes =
-      let none_yet = unrooted g.standing.here act.Width g.standing.around next a.made.root goes.leads at.made.unrooted in
-      let stays = width_stays g.standing.around next g.standing.here goes.leads in
-      let w = went_width says values text s.ctx.types a c g.built g.standing next (a.taken - 1) at.holds (text (a.taken - 1)) sign bits n refl stays kept says_it shown put in
-      (w.0, record { holds = w.1; made = part_made says values text g.start g.first s a c g.built g.standing next (a.taken - 1) g.names at.made none_yet act.Width neutral_width (sort_here g at) stays kept made put.body put.first put.numbers })
+  pub stepped_leaf : KeepsAround a c → c.made ≡ a.made → (sort : LeafSort) (l : LeafValue) → IsLeaf l (leaf_in sort (text (a.taken - 1))) → HasPut a.here c.here a.here.body (part.Leaf l) (a.taken - 1)
+      → HasStepped says values text s a s c (act.Leaf sort)
+  stepped_leaf kept made sort l shown put g next at goes =
+      let none_yet = unrooted g.standing.here (act.Leaf sort) g.standing.around next a.made.root goes.leads at.made.unrooted in
+      let stays = leaf_stays g.standing.around next g.standing.here sort goes.leads in
+      let w = went_leaf says values text s.ctx.types a c g.built g.standing next (a.taken - 1) at.holds sort l stays kept shown put in
+      (w.0, record { holds = w.1; made = part_made says values text g.start g.first s a c g.built g.standing next (a.taken - 1) g.names at.made none_yet (act.Leaf sort) (neutral_leaf sort) (sort_here g at) stays kept made put.body put.first put.numbers })
 
   -- ---- what begins
 
@@ -239,29 +223,33 @@ module _ {D K A T : Type 0} (says : Saying K A T) (values : Values) (text : ℕ 
         },
       )
 
-  pub stepped_type : c.made ≡ a.made → (n : ℕ) → Begun a c (body.«Type» n) → HasStepped says values text s a s c (act.BeginType n)
+  stepped_type : c.made ≡ a.made → (n : ℕ) → Begun a c (body.«Type» n) → HasStepped says values text s a s c (act.Begin sorts.«Type» n)
   stepped_type made n begun g next at goes =
-      let none_yet = unrooted g.standing.here (act.BeginType n) g.standing.around next a.made.root goes.leads at.made.unrooted in (
+      let none_yet = unrooted g.standing.here (act.Begin sorts.«Type» n) g.standing.around next a.made.root goes.leads at.made.unrooted in (
         refl,
         record {
-          holds = begins says values text s.ctx.types a c g.built g.standing next (a.taken - 1) at.holds (act.BeginType n) (body.«Type» n)
+          holds = begins says values text s.ctx.types a c g.built g.standing next (a.taken - 1) at.holds (act.Begin sorts.«Type» n) (body.«Type» n)
               (moving.type_begins g.standing.around next g.standing.here n goes.leads) begun.here begun.around refl tt;
-          made = value_begins says values text g.start g.first s a c g.built g.standing next g.names at.made made none_yet (act.BeginType n) (body.«Type» n) in_type
+          made = value_begins says values text g.start g.first s a c g.built g.standing next g.names at.made made none_yet (act.Begin sorts.«Type» n) (body.«Type» n) (in_value sorts.«Type»)
               (type_enters g.standing.around next g.standing.here n goes.leads) begun refl refl refl refl tt;
         },
       )
 
-  pub stepped_attribute : c.made ≡ a.made → (n : ℕ) → Begun a c (body.Attribute n) → HasStepped says values text s a s c (act.BeginAttribute n)
+  stepped_attribute : c.made ≡ a.made → (n : ℕ) → Begun a c (body.Attribute n) → HasStepped says values text s a s c (act.Begin sorts.Attribute n)
   stepped_attribute made n begun g next at goes =
-      let none_yet = unrooted g.standing.here (act.BeginAttribute n) g.standing.around next a.made.root goes.leads at.made.unrooted in (
+      let none_yet = unrooted g.standing.here (act.Begin sorts.Attribute n) g.standing.around next a.made.root goes.leads at.made.unrooted in (
         refl,
         record {
-          holds = begins says values text s.ctx.types a c g.built g.standing next (a.taken - 1) at.holds (act.BeginAttribute n) (body.Attribute n)
+          holds = begins says values text s.ctx.types a c g.built g.standing next (a.taken - 1) at.holds (act.Begin sorts.Attribute n) (body.Attribute n)
               (moving.attribute_begins g.standing.around next g.standing.here n goes.leads) begun.here begun.around refl tt;
-          made = value_begins says values text g.start g.first s a c g.built g.standing next g.names at.made made none_yet (act.BeginAttribute n) (body.Attribute n) in_attribute
+          made = value_begins says values text g.start g.first s a c g.built g.standing next g.names at.made made none_yet (act.Begin sorts.Attribute n) (body.Attribute n) (in_value sorts.Attribute)
               (attribute_enters g.standing.around next g.standing.here n goes.leads) begun refl refl refl refl tt;
         },
       )
+
+  pub stepped_value : c.made ≡ a.made → (sort : ValueSort) (n : ℕ) → Begun a c (value_body sort n) → HasStepped says values text s a s c (act.Begin sort n)
+  stepped_value made sorts.«Type» n begun = stepped_type made n begun
+  stepped_value made sorts.Attribute n begun = stepped_attribute made n begun
 
   pub stepped_list : c.made ≡ a.made → (ms : Vec (Vec (Part D K A T) Global) Global) → Begun a c (body.List ms) → ms.items ≡ [] → HasStepped says values text s a s c act.BeginList
   stepped_list made ms begun empty g next at goes =

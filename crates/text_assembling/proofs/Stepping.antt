@@ -1,18 +1,14 @@
 -- What an action makes of what is open.
-use Rattle.std.proofs.Common.{◌≡◌, ℕ, List, [], ◌∷◌, ◌++◌, reverse, Option, Some, None, Result, Ok, Err, OnOk, Bool, refl, sym, ap, subst, ◌∙◌, ◌⊎◌, inl, inr}
+use Rattle.std.proofs.Common.{◌≡◌, ℕ, List, [], ◌∷◌, ◌++◌, reverse, Some, None, Result, Ok, Err, OnOk, refl, sym, ap, subst, ◌∙◌, ◌⊎◌, inl, inr}
 use Rattle.std.proofs.lemmas.List.{reverse-append}
 use Rattle.std.proofs.lemmas.Result.{on_ok_weaker}
 use Rattle.std.specs.Prelude.{Vec}
 use Rattle.std.specs.Global.{Global}
-use Rattle.ir_names.specs.declared.identifier.Identifier.{Identifier}
-use Rattle.ir_names.specs.declared.kinds.Signedness.{Signedness}
-use Rattle.ir_names.specs.Identifier.{text_of}
 use Rattle.ir_names.specs.Tree.{Trees, node, no_tree, a_tree}
-use Rattle.ir_print.specs.declared.format.Number.{Number}
 use Rattle.ir_print.specs.declared.format.Part.{Part}
 use Rattle.ir_print.specs.declared.format.Part.TheVariants as part
-use Rattle.ir_print.specs.Pieces.{Piece, Values, ValueTree, name, number, width}
-use Rattle.ir_print.specs.Shown.{Saying, ShowsPart, IsNumber, IsWidth}
+use Rattle.ir_print.specs.Pieces.{Values, ValueTree, leaf}
+use Rattle.ir_print.specs.Shown.{Saying, ShowsPart, IsLeaf}
 use Rattle.text_assembling.specs.declared.assembling.Assembler.{Assembler}
 use Rattle.text_frames.specs.declared.opened.AssemblyFault.{AssemblyFault}
 use Rattle.ir_tokens.specs.declared.faults.Fault.{Fault}
@@ -23,7 +19,7 @@ use Rattle.text_frames.specs.declared.opened.Body.TheVariants as body
 use Rattle.text_frames.specs.declared.opened.Open as opened
 use Rattle.text_frames.specs.declared.opened.OpenBlock.{OpenBlock}
 use Rattle.ir_forest.specs.Forest.{ActionSpan}
-use Rattle.ir_forest.specs.Meaning.{with_piece, number_in, width_in, tokens_in}
+use Rattle.ir_forest.specs.Meaning.{with_piece, leaf_in, tokens_in}
 use Rattle.ir_forest.specs.Building as building
 use Rattle.ir_forest.specs.Building.{Built, after, behind, with_begin, with_leaf, with_end, with_name, names_behind, fault_after, fault_at_end}
 use Rattle.ir_grammar.specs.Nesting.{Position, move}
@@ -35,6 +31,10 @@ use Rattle.text_assembling.specs.Assembling.{Holds, KeepsAround}
 use Rattle.ir_forest.proofs.PiecesBehind.{tokens_behind}
 use Rattle.text_frames.proofs.Framing.{stands_later, stands_at, stands_with, innermost, frame_put, fresh_frame}
 use Rattle.text_frames.proofs.Ended.{Hollow, hollow_names, frame_hollow, began_same, began_other, is_block, is_operands, is_edge, no_fault}
+use Rattle.ir_print.specs.declared.format.LeafValue.{LeafValue}
+use Rattle.ir_print.specs.declared.format.LeafSort.{LeafSort}
+use Rattle.ir_print.specs.declared.format.ValueSort.{ValueSort}
+use Rattle.ir_print.specs.declared.format.ValueSort.TheVariants as sorts
 use Rattle.text_frames.proofs.Moving.{GoesIn, GoesTo, Stays, operation_out, region_out, block_out, type_out, attribute_out, operands_out, edge_out, item_out, list_out}
 
 -- what an action at a token leads to: no fault, and what is open holds what is built
@@ -70,9 +70,9 @@ module _ {D K A T : Type 0} (says : Saying K A T) (values : Values) (text : ℕ 
       (subst (λ (gs : List (opened.Open D K A T)). Stands says values text types c.here goes.inner no_tree gs (o ∷ b.around) (goes.outer ∷ s.around)) (sym top) all)
 
   -- what stands alone is one more tree
-  leaf : (t : List T) → KeepsKeys types t → (x : Action) (goes : GoesTo s.here s.around next) → KeepsAround a c → BeganSo a.here c.here
+  alone : (t : List T) → KeepsKeys types t → (x : Action) (goes : GoesTo s.here s.around next) → KeepsAround a c → BeganSo a.here c.here
       → IsFrame says values text t c.here goes.to (behind b.here (node (lone x k) no_tree)) → Holds says values text t c (with_leaf b x k) next
-  leaf t keeps x goes kept so new =
+  alone t keeps x goes kept so new =
       let more : Trees ActionSpan = behind b.here (node (lone x k) no_tree) in
       let all : Stands says values text t c.here goes.to more (reverse a.around.items) b.around s.around =
       stands_with says values text t a.here c.here s.here goes.to b.here more (reverse a.around.items) b.around s.around goes.stays so new
@@ -83,36 +83,18 @@ module _ {D K A T : Type 0} (says : Saying K A T) (values : Values) (text : ℕ 
   put : (x : Action) (p : Part D K A T) (t : ValueTree) → Stays s.here s.around next → KeepsAround a c → HasPut a.here c.here a.here.body p k
       → with_piece values x (text k) 0 no_tree no_tree ≡ a_tree t no_tree → ShowsPart says types p t → Holds says values text types c (with_leaf b x k) next
   put x p t goes kept new piece shown =
-      leaf types (λ i key h. h) x (record { to = s.here; leads = goes.leads; stays = refl }) kept (began_same a.here c.here new.body new.first)
+      alone types (λ i key h. h) x (record { to = s.here; leads = goes.leads; stays = refl }) kept (began_same a.here c.here new.body new.first)
       (frame_put says values text types a.here c.here a.here.body s.here b.here (lone x k) no_tree p t goes.takes frame refl new piece shown)
 
-  pub went_name : (cs : List ℕ) (id : Identifier) → cs ≡ text k → Stays s.here s.around next → KeepsAround a c → text_of id ≡ cs → HasPut a.here c.here a.here.body (part.Name id) k
-      → Goes says values text types c b act.Name k next
-  went_name cs id is goes kept spelt new = (refl, put act.Name (part.Name id) (node (name (text k)) no_tree) goes kept new refl (id, refl, spelt ∙ is))
-
-  pub went_number : (cs : List ℕ) (negative : Bool) (magnitude : ℕ) (n : Option Number) → cs ≡ text k → Stays s.here s.around next → KeepsAround a c
-      → number_in cs ≡ number negative magnitude → IsNumber n negative magnitude → HasPut a.here c.here a.here.body (part.Number n) k
-      → Goes says values text types c b act.Number k next
-  went_number cs negative magnitude n is goes kept says_it shown new = (
-    refl,
-    put act.Number (part.Number n) (node (number negative magnitude) no_tree) goes kept new
-        (ap (λ (x : Piece). a_tree (node x no_tree) no_tree) (ap number_in (sym is) ∙ says_it)) (n, refl, shown),
-  )
-
-  pub went_width : (cs : List ℕ) (sign : Signedness) (bits : ℕ) (n : Option ℕ) → cs ≡ text k → Stays s.here s.around next → KeepsAround a c
-      → width_in cs ≡ width sign bits → IsWidth n bits → HasPut a.here c.here a.here.body (part.Width sign n) k
-      → Goes says values text types c b act.Width k next
-  went_width cs sign bits n is goes kept says_it shown new = (
-    refl,
-    put act.Width (part.Width sign n) (node (width sign bits) no_tree) goes kept new
-        (ap (λ (x : Piece). a_tree (node x no_tree) no_tree) (ap width_in (sym is) ∙ says_it)) (n, refl, shown),
-  )
+  pub went_leaf : (sort : LeafSort) (l : LeafValue) → Stays s.here s.around next → KeepsAround a c → IsLeaf l (leaf_in sort (text k)) → HasPut a.here c.here a.here.body (part.Leaf l) k
+      → Goes says values text types c b (act.Leaf sort) k next
+  went_leaf sort l goes kept shown new = (refl, put (act.Leaf sort) (part.Leaf l) (node (leaf (leaf_in sort (text k))) no_tree) goes kept new refl (l, refl, shown))
 
   pub went_result : GoesTo s.here s.around next × Hollow (sort_at s.here) → KeepsAround a c → HasOneMoreName a.here c.here k → Goes says values text types c b act.Result k next
   went_result goes kept new =
       let named : a.here.names.items ≡ names_behind [] b.here = hollow_names (sort_at s.here) a.here.names.items b.here goes.1 frame.named in (
         refl,
-        leaf types (λ i key h. h) act.Result goes.0 kept (began_same a.here c.here new.body new.first)
+        alone types (λ i key h. h) act.Result goes.0 kept (began_same a.here c.here new.body new.first)
             (frame_hollow says values text types c.here goes.0.to b.here (lone act.Result k) no_tree
             (ap sort_of new.body ∙ (frame.sort ∙ sym goes.0.stays)) (subst Hollow (sym goes.0.stays) goes.1)
             (new.names ∙ ap (λ (ns : List ℕ). ns ++ k ∷ []) named)),
@@ -121,7 +103,7 @@ module _ {D K A T : Type 0} (says : Saying K A T) (values : Values) (text : ℕ 
   in_block_of : (t : List T) → KeepsKeys types t → (x : Action) → with_name (names_behind [] b.here) x k ≡ [] → GoesTo s.here s.around next × (sort_at s.here ≡ a_block) → KeepsAround a c
       → (y : Body D K A T) → sort_of y ≡ sort_of a.here.body → BeganSo a.here c.here → HasBody a.here c.here y → Holds says values text t c (with_leaf b x k) next
   in_block_of t keeps x unnamed goes kept y sorts so new =
-      leaf t keeps x goes.0 kept so
+      alone t keeps x goes.0 kept so
       (frame_hollow says values text t c.here goes.0.to b.here (lone x k) no_tree
       (ap sort_of new.body ∙ (sorts ∙ (frame.sort ∙ sym goes.0.stays))) (subst Hollow (sym (goes.0.stays ∙ goes.1)) tt) (new.names ∙ sym unnamed))
 
@@ -151,7 +133,7 @@ module _ {D K A T : Type 0} (says : Saying K A T) (values : Values) (text : ℕ 
       let old : ks.items ≡ tokens_in b.here = subst (λ (x : Body D K A T). Contains says values text types x a.here.content.value b.here) is frame.contains in
       let sorts : some_operands ≡ sort_at goes.0.to = sym (goes.0.stays ∙ goes.1) in (
         refl,
-        leaf types (λ i key h. h) act.Operand goes.0 kept
+        alone types (λ i key h. h) act.Operand goes.0 kept
             (began_other a.here c.here (body.Operands ks) (body.Operands ls) is (ap (λ (x : opened.Open D K A T). x.body) new) (λ x h. h) refl (ap (λ (x : opened.Open D K A T). x.first) new))
             (subst (λ (x : opened.Open D K A T). IsFrame says values text types x goes.0.to more) (sym new) (record {
               sort = sorts;
@@ -171,7 +153,7 @@ module _ {D K A T : Type 0} (says : Saying K A T) (values : Values) (text : ℕ 
       let old : ks.items ≡ tokens_in b.here = subst (λ (x : Body D K A T). Contains says values text types x a.here.content.value b.here) is frame.contains in
       let sorts : an_edge ≡ sort_at goes.0.to = sym (goes.0.stays ∙ goes.1) in (
         refl,
-        leaf types (λ i key h. h) act.Operand goes.0 kept
+        alone types (λ i key h. h) act.Operand goes.0 kept
             (began_other a.here c.here (body.Successor ks) (body.Successor ls) is (ap (λ (x : opened.Open D K A T). x.body) new) (λ x h. h) refl (ap (λ (x : opened.Open D K A T). x.first) new))
             (subst (λ (x : opened.Open D K A T). IsFrame says values text types x goes.0.to more) (sym new) (record {
               sort = sorts;
@@ -236,7 +218,7 @@ any_ok (Err e) h = tt
 
 -- the action ends something
 abbrev pub IsAnEnd : Action → Type 0
-IsAnEnd x = (x ≡ act.EndOperation) ⊎ ((x ≡ act.EndRegion) ⊎ ((x ≡ act.EndBlock) ⊎ ((x ≡ act.EndType) ⊎ ((x ≡ act.EndAttribute) ⊎ ((x ≡ act.EndOperands) ⊎ ((x ≡ act.EndItem) ⊎ ((x ≡ act.EndList) ⊎ (x ≡ act.EndSuccessor))))))))
+IsAnEnd x = (x ≡ act.EndOperation) ⊎ ((x ≡ act.EndRegion) ⊎ ((x ≡ act.EndBlock) ⊎ (((sort : ValueSort) × (x ≡ act.End sort)) ⊎ ((x ≡ act.EndOperands) ⊎ ((x ≡ act.EndItem) ⊎ ((x ≡ act.EndList) ⊎ (x ≡ act.EndSuccessor)))))))
 
 module _ {D K A T : Type 0} (says : Saying K A T) (values : Values) (text : ℕ → List ℕ) (types : List T) (c : Assembler D K A T) (b : Built) (s next : Standing) (k : ℕ) (r : Result (Unit {0}) AssemblyFault) where
   pub ends_went : (x : Action) → IsAnEnd x → moved_by (move s.here x) s.around ≡ Some next
@@ -245,12 +227,12 @@ module _ {D K A T : Type 0} (says : Saying K A T) (values : Values) (text : ℕ 
   ends_went x (inl e) m h = went says values text types c b k next r x act.EndOperation e (h (operation_out s.around next s.here (at_action s next x act.EndOperation e m)).0)
   ends_went x (inr (inl e)) m h = went says values text types c b k next r x act.EndRegion e (on_ok_weaker r (λ (w : (fault_at_end values text b.here b.around k ≡ None) × Holds says values text types c (with_end b.here b.around k) next). (refl, w.1)) (h (region_out s.around next s.here (at_action s next x act.EndRegion e m)).0))
   ends_went x (inr (inr (inl e))) m h = went says values text types c b k next r x act.EndBlock e (on_ok_weaker r (λ (w : (fault_at_end values text b.here b.around k ≡ None) × Holds says values text types c (with_end b.here b.around k) next). (refl, w.1)) (h (block_out s.around next s.here (at_action s next x act.EndBlock e m)).0))
-  ends_went x (inr (inr (inr (inl e)))) m h = went says values text types c b k next r x act.EndType e (h (type_out s.around next s.here (at_action s next x act.EndType e m)).0)
-  ends_went x (inr (inr (inr (inr (inl e))))) m h = went says values text types c b k next r x act.EndAttribute e (h (attribute_out s.around next s.here (at_action s next x act.EndAttribute e m)).0)
-  ends_went x (inr (inr (inr (inr (inr (inl e)))))) m h = went says values text types c b k next r x act.EndOperands e (on_ok_weaker r (λ (w : (fault_at_end values text b.here b.around k ≡ None) × Holds says values text types c (with_end b.here b.around k) next). (refl, w.1)) (h (operands_out s.around next s.here (at_action s next x act.EndOperands e m)).0))
-  ends_went x (inr (inr (inr (inr (inr (inr (inl e))))))) m h = went says values text types c b k next r x act.EndItem e (on_ok_weaker r (λ (w : (fault_at_end values text b.here b.around k ≡ None) × Holds says values text types c (with_end b.here b.around k) next). (refl, w.1)) (h (item_out s.around next s.here (at_action s next x act.EndItem e m)).0))
-  ends_went x (inr (inr (inr (inr (inr (inr (inr (inl e)))))))) m h = went says values text types c b k next r x act.EndList e (on_ok_weaker r (λ (w : (fault_at_end values text b.here b.around k ≡ None) × Holds says values text types c (with_end b.here b.around k) next). (refl, w.1)) (h (list_out s.around next s.here (at_action s next x act.EndList e m)).0))
-  ends_went x (inr (inr (inr (inr (inr (inr (inr (inr e)))))))) m h = went says values text types c b k next r x act.EndSuccessor e (on_ok_weaker r (λ (w : (fault_at_end values text b.here b.around k ≡ None) × Holds says values text types c (with_end b.here b.around k) next). (refl, w.1)) (h (edge_out s.around next s.here (at_action s next x act.EndSuccessor e m)).0))
+  ends_went x (inr (inr (inr (inl (sorts.«Type», e))))) m h = went says values text types c b k next r x (act.End sorts.«Type») e (h (type_out s.around next s.here (at_action s next x (act.End sorts.«Type») e m)).0)
+  ends_went x (inr (inr (inr (inl (sorts.Attribute, e))))) m h = went says values text types c b k next r x (act.End sorts.Attribute) e (h (attribute_out s.around next s.here (at_action s next x (act.End sorts.Attribute) e m)).0)
+  ends_went x (inr (inr (inr (inr (inl e))))) m h = went says values text types c b k next r x act.EndOperands e (on_ok_weaker r (λ (w : (fault_at_end values text b.here b.around k ≡ None) × Holds says values text types c (with_end b.here b.around k) next). (refl, w.1)) (h (operands_out s.around next s.here (at_action s next x act.EndOperands e m)).0))
+  ends_went x (inr (inr (inr (inr (inr (inl e)))))) m h = went says values text types c b k next r x act.EndItem e (on_ok_weaker r (λ (w : (fault_at_end values text b.here b.around k ≡ None) × Holds says values text types c (with_end b.here b.around k) next). (refl, w.1)) (h (item_out s.around next s.here (at_action s next x act.EndItem e m)).0))
+  ends_went x (inr (inr (inr (inr (inr (inr (inl e))))))) m h = went says values text types c b k next r x act.EndList e (on_ok_weaker r (λ (w : (fault_at_end values text b.here b.around k ≡ None) × Holds says values text types c (with_end b.here b.around k) next). (refl, w.1)) (h (list_out s.around next s.here (at_action s next x act.EndList e m)).0))
+  ends_went x (inr (inr (inr (inr (inr (inr (inr e))))))) m h = went says values text types c b k next r x act.EndSuccessor e (on_ok_weaker r (λ (w : (fault_at_end values text b.here b.around k ≡ None) × Holds says values text types c (with_end b.here b.around k) next). (refl, w.1)) (h (edge_out s.around next s.here (at_action s next x act.EndSuccessor e m)).0))
 
 module _ {D K A T : Type 0} (says : Saying K A T) (values : Values) (text : ℕ → List ℕ) (types : List T) (a : Assembler D K A T) (b : Built) (s next : Standing) (k : ℕ)
     (holds : Holds says values text types a b s) (f : Fault) where
@@ -265,9 +247,9 @@ module _ {D K A T : Type 0} (says : Saying K A T) (values : Values) (text : ℕ 
   end_refused x (inl e) m h = faulty x act.EndOperation e (h (operation_out s.around next s.here (at_action s next x act.EndOperation e m)).0)
   end_refused x (inr (inl e)) m h = faulty x act.EndRegion e (let out = region_out s.around next s.here (at_action s next x act.EndRegion e m) in none_is_refused (subst Silent (sym out.1) tt) (h out.0))
   end_refused x (inr (inr (inl e))) m h = faulty x act.EndBlock e (let out = block_out s.around next s.here (at_action s next x act.EndBlock e m) in none_is_refused (subst Silent (sym out.1) tt) (h out.0))
-  end_refused x (inr (inr (inr (inl e)))) m h = faulty x act.EndType e (h (type_out s.around next s.here (at_action s next x act.EndType e m)).0)
-  end_refused x (inr (inr (inr (inr (inl e))))) m h = faulty x act.EndAttribute e (h (attribute_out s.around next s.here (at_action s next x act.EndAttribute e m)).0)
-  end_refused x (inr (inr (inr (inr (inr (inl e)))))) m h = faulty x act.EndOperands e (let out = operands_out s.around next s.here (at_action s next x act.EndOperands e m) in none_is_refused (subst Silent (sym out.1) tt) (h out.0))
-  end_refused x (inr (inr (inr (inr (inr (inr (inl e))))))) m h = faulty x act.EndItem e (let out = item_out s.around next s.here (at_action s next x act.EndItem e m) in none_is_refused (subst Silent (sym out.1) tt) (h out.0))
-  end_refused x (inr (inr (inr (inr (inr (inr (inr (inl e)))))))) m h = faulty x act.EndList e (let out = list_out s.around next s.here (at_action s next x act.EndList e m) in none_is_refused (subst Silent (sym out.1) tt) (h out.0))
-  end_refused x (inr (inr (inr (inr (inr (inr (inr (inr e)))))))) m h = faulty x act.EndSuccessor e (let out = edge_out s.around next s.here (at_action s next x act.EndSuccessor e m) in none_is_refused (subst Silent (sym out.1) tt) (h out.0))
+  end_refused x (inr (inr (inr (inl (sorts.«Type», e))))) m h = faulty x (act.End sorts.«Type») e (h (type_out s.around next s.here (at_action s next x (act.End sorts.«Type») e m)).0)
+  end_refused x (inr (inr (inr (inl (sorts.Attribute, e))))) m h = faulty x (act.End sorts.Attribute) e (h (attribute_out s.around next s.here (at_action s next x (act.End sorts.Attribute) e m)).0)
+  end_refused x (inr (inr (inr (inr (inl e))))) m h = faulty x act.EndOperands e (let out = operands_out s.around next s.here (at_action s next x act.EndOperands e m) in none_is_refused (subst Silent (sym out.1) tt) (h out.0))
+  end_refused x (inr (inr (inr (inr (inr (inl e)))))) m h = faulty x act.EndItem e (let out = item_out s.around next s.here (at_action s next x act.EndItem e m) in none_is_refused (subst Silent (sym out.1) tt) (h out.0))
+  end_refused x (inr (inr (inr (inr (inr (inr (inl e))))))) m h = faulty x act.EndList e (let out = list_out s.around next s.here (at_action s next x act.EndList e m) in none_is_refused (subst Silent (sym out.1) tt) (h out.0))
+  end_refused x (inr (inr (inr (inr (inr (inr (inr e))))))) m h = faulty x act.EndSuccessor e (let out = edge_out s.around next s.here (at_action s next x act.EndSuccessor e m) in none_is_refused (subst Silent (sym out.1) tt) (h out.0))

@@ -3,6 +3,8 @@ use Rattle.std.specs.Prelude.{◌≡◌, ℕ, ◌-◌, List, [], ◌∷◌, ◌+
 use Rattle.text_frames.specs.Worlds.{joined}
 use Rattle.ir_print.specs.Pieces.{Values}
 use Rattle.ir_print.specs.Shown.{Saying}
+use Rattle.ir_print.specs.declared.format.ValueSort.{ValueSort}
+use Rattle.ir_print.specs.declared.format.ValueSort.TheVariants as sorts
 use Rattle.ir_context.specs.Views.{ContextView}
 use Rattle.ir_context.specs.declared.notes.BlockNotes.{BlockNotes}
 use Rattle.ir_context.specs.declared.notes.OperationData.{OperationData}
@@ -40,6 +42,11 @@ abbrev pub stage : {D TypeKind AttrKind TypeBody Saved Location OpKind Attr Type
     (BlockNotes D TypeKind AttrKind TypeBody Saved Location OpKind Attr TypeKey) (TypesView TypeKey TypeBody Saved)
     → Stage OpKind Attr TypeKey
 stage c = record { ctx = seen c; counter = c.program.counter }
+
+-- the body of a value of a sort, of the kind with a number
+abbrev pub value_body : {D K A T : Type 0} → ValueSort → ℕ → Body D K A T
+value_body sorts.«Type» n = body.«Type» n
+value_body sorts.Attribute n = body.Attribute n
 
 -- ---- what is open
 

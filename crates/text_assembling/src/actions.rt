@@ -46,11 +46,8 @@ impl<D: TextDialect> Assembler<D> {
             Action::Label => self.begin_block(spares),
             Action::Argument => self.argument(),
             Action::Header => self.header(ctx, *source),
-            Action::BeginType(kind) => self.begin_type(spares, kind),
-            Action::BeginAttribute(kind) => self.begin_attribute(spares, kind),
-            Action::Name => self.name(source.text(self.last())),
-            Action::Number => self.number(source.text(self.last())),
-            Action::Width => self.width(source.text(self.last())),
+            Action::Begin(sort, kind) => self.begin_value(spares, sort, kind),
+            Action::Leaf(sort) => self.leaf(sort, source.text(self.last())),
             Action::BeginOperands => self.begin_operands(spares),
             Action::Operand => self.operand(),
             Action::BeginSuccessor => self.begin_successor(spares),
@@ -59,8 +56,7 @@ impl<D: TextDialect> Assembler<D> {
             Action::EndOperation
             | Action::EndRegion
             | Action::EndBlock
-            | Action::EndType
-            | Action::EndAttribute
+            | Action::End(_)
             | Action::EndOperands
             | Action::EndItem
             | Action::EndList

@@ -1,34 +1,29 @@
 //! What begins in a text, and what stands alone in it.
-ghost use Rattle.std.specs.Prelude.{◌≡◌, ◌-◌, ◌∷◌, ◌++◌, [], ℕ, List, Bool, None, OnOk, IfErr, true};
+ghost use Rattle.std.specs.Prelude.{◌≡◌, ◌-◌, ◌∷◌, ◌++◌, [], ℕ, List, None, OnOk, IfErr};
 ghost use Rattle.ir_characters.specs.Texts.{codes_of};
-ghost use Rattle.ir_names.specs.declared.kinds.Signedness.{Signedness};
-ghost use Rattle.ir_names.specs.declared.identifier.Identifier.{Identifier};
-ghost use Rattle.ir_names.specs.Identifier.{text_of};
-ghost use Rattle.ir_names.specs.Text.{is_identifier};
-ghost use Rattle.ir_print.specs.Pieces.{number, width};
-ghost use Rattle.ir_print.specs.Shown.{IsNumber, IsWidth};
+ghost use Rattle.ir_print.specs.Shown.{IsLeaf};
+ghost use Rattle.ir_print.specs.declared.format.LeafValue.{LeafValue};
 ghost use Rattle.ir_program.specs.declared.handles.BasicBlock.{BasicBlock};
 ghost use Rattle.ir_program.specs.declared.handles.Ptr.{Ptr};
 ghost use Rattle.text_frames.specs.declared.opened.AssemblyFault.TheVariants.{Memory};
 ghost use Rattle.text_frames.specs.declared.opened.OpenOperation.{OpenOperation};
-ghost use Rattle.text_assembling.specs.Assembling.{Begun, KeepsAround, NamesOne};
+ghost use Rattle.text_assembling.specs.Assembling.{Begun, KeepsAround, NamesOne, value_body};
+ghost use Rattle.text_frames.specs.Makes.{IsSpelled};
 ghost use Rattle.text_frames.specs.Opened.{HasOneMoreName, HasBody, HasPut};
-ghost use Rattle.ir_forest.specs.Meaning.{number_in, width_in};
+ghost use Rattle.ir_forest.specs.Meaning.{leaf_in};
 
 use crate::assembling::Assembler;
 use ir_characters::Text;
-use ir_print::Part;
+use ir_print::{LeafSort, Part, ValueSort};
 use text_dialect::TextDialect;
-use text_frames::making::label_of;
+use text_frames::making::leaf_of;
 use text_frames::opened::{AssemblyFault, Body, Content, Open, OpenBlock, OpenOperation};
-use text_frames::source::{number_of, width_of};
 
 impl<D: TextDialect> Assembler<D> {
-    ghost use Rattle.ir_print.specs.declared.format.Number.{Number};
     ghost use Rattle.ir_print.specs.declared.format.Part.{Part};
     ghost use Rattle.ir_print.specs.declared.format.Part.TheVariants as part;
     ghost use Rattle.text_frames.specs.declared.opened.Body.TheVariants as body;
-    ghost use Rattle.std.specs.Prelude.{Option, Vec};
+    ghost use Rattle.std.specs.Prelude.{Vec};
     ghost use Rattle.std.specs.Global.{Global};
 
     /// Something begins at the last token, in spare memory if there is some.
@@ -89,32 +84,23 @@ impl<D: TextDialect> Assembler<D> {
         self.begin(spares, Body::Block(OpenBlock { block: None }))
     }
 
-    /// An attribute of the kind with this number begins.
-    pub fn begin_attribute(
+    /// A value of this sort begins, of the kind with this number.
+    pub fn begin_value(
         &mut self,
         spares: &mut Vec<Box<Content<D>>>,
+        sort: ValueSort,
         kind: u8,
     ) -> Result<(), AssemblyFault>
-        ensures begun { OnOk result (Begun self.old self.new (body.Attribute kind)) }
+        ensures begun { OnOk result (Begun self.old self.new (value_body sort kind)) }
         ensures made { self.new.made ≡ self.old.made }
         ensures taken { self.new.taken ≡ self.old.taken }
         ensures memory { IfErr result (λ e. e ≡ Memory) }
     {
-        self.begin(spares, Body::Attribute(kind))
-    }
-
-    /// A type of the kind with this number begins.
-    pub fn begin_type(
-        &mut self,
-        spares: &mut Vec<Box<Content<D>>>,
-        kind: u8,
-    ) -> Result<(), AssemblyFault>
-        ensures begun { OnOk result (Begun self.old self.new (body.«Type» kind)) }
-        ensures made { self.new.made ≡ self.old.made }
-        ensures taken { self.new.taken ≡ self.old.taken }
-        ensures memory { IfErr result (λ e. e ≡ Memory) }
-    {
-        self.begin(spares, Body::Type(kind))
+        let body = match sort {
+            ValueSort::Type => Body::Type(kind),
+            ValueSort::Attribute => Body::Attribute(kind),
+        };
+        self.begin(spares, body)
     }
 
     /// A member of a list begins.
@@ -246,46 +232,19 @@ impl<D: TextDialect> Assembler<D> {
         Ok(())
     }
 
-    /// The last token is a part.
-    pub fn name(&mut self, text: Text) -> Result<(), AssemblyFault>
-        ensures here { is_identifier (codes_of text.entry) ≡ true → OnOk result ((id : Identifier)
-            × (text_of id ≡ codes_of text.entry)
-            × HasPut self.old.here self.new.here self.old.here.body (part.Name id) (self.old.taken - 1)) }
+    /// The last token is a leaf of this sort.
+    pub fn leaf(&mut self, sort: LeafSort, text: Text) -> Result<(), AssemblyFault>
+        ensures here { IsSpelled (leaf_in sort (codes_of text.entry)) → OnOk result ((l : LeafValue)
+            × IsLeaf l (leaf_in sort (codes_of text.entry))
+            × HasPut self.old.here self.new.here self.old.here.body (part.Leaf l) (self.old.taken - 1)) }
         ensures made { self.new.made ≡ self.old.made }
         ensures around { KeepsAround self.old self.new }
         ensures memory { IfErr result (λ e. e ≡ Memory) }
     {
         let token = self.last();
-        let label = label_of(self.alloc, text)?;
-        match label {
-            Some(name) => self.here.put(Part::Name(name), token),
+        match leaf_of(self.alloc, sort, text)? {
+            Some(leaf) => self.here.put(Part::Leaf(leaf), token),
             None => Ok(()),
         }
-    }
-
-    pub fn number(&mut self, text: Text) -> Result<(), AssemblyFault>
-        ensures here { (negative : Bool) (magnitude : ℕ) → number_in (codes_of text.entry) ≡ number negative magnitude
-            → OnOk result ((o : Option Number) × IsNumber o negative magnitude
-            × HasPut self.old.here self.new.here self.old.here.body (part.Number o) (self.old.taken - 1)) }
-        ensures made { self.new.made ≡ self.old.made }
-        ensures around { KeepsAround self.old self.new }
-        ensures memory { IfErr result (λ e. e ≡ Memory) }
-    {
-        let token = self.last();
-        let number = number_of(text);
-        self.here.put(Part::Number(number), token)
-    }
-
-    pub fn width(&mut self, text: Text) -> Result<(), AssemblyFault>
-        ensures here { (sign : Signedness) (bits : ℕ) → width_in (codes_of text.entry) ≡ width sign bits
-            → OnOk result ((o : Option ℕ) × IsWidth o bits
-            × HasPut self.old.here self.new.here self.old.here.body (part.Width sign o) (self.old.taken - 1)) }
-        ensures made { self.new.made ≡ self.old.made }
-        ensures around { KeepsAround self.old self.new }
-        ensures memory { IfErr result (λ e. e ≡ Memory) }
-    {
-        let token = self.last();
-        let (signedness, width) = width_of(text);
-        self.here.put(Part::Width(signedness, width), token)
     }
 }

@@ -5,7 +5,8 @@ ghost use Rattle.ir_forest.specs.Building.{number_fault};
 ghost use Rattle.ir_forest.specs.Forest.{ActionSpan};
 ghost use Rattle.ir_forest.specs.Meaning.{tokens_in};
 ghost use Rattle.ir_names.specs.Tree.{Trees, node};
-ghost use Rattle.ir_print.specs.Pieces.{Pieces, type_of_kind, attribute_of_kind};
+ghost use Rattle.ir_print.specs.Pieces.{Pieces, value_of_kind};
+ghost use Rattle.ir_print.specs.declared.format.ValueSort.TheVariants as sorts;
 ghost use Rattle.ir_print.specs.Shown.{ShowsParts, ShowsType, ShowsAttribute};
 ghost use Rattle.ir_program.specs.declared.handles.BasicBlock.{BasicBlock};
 ghost use Rattle.ir_program.specs.declared.handles.Ptr.{Ptr};
@@ -61,7 +62,7 @@ impl<D: TextDialect> Assembler<D> {
     ) -> Result<(), AssemblyFault>
         ensures made { (ps : Pieces) → ShowsParts D.says ctx.old.types.keys content.now.parts.items ps
             → OnOk result ((D.values.refused_type kind ps ≡ None) × (ty : TypeHandle)
-            × ShowsType D.says ctx.new.types.keys ty (node (type_of_kind kind) ps)
+            × ShowsType D.says ctx.new.types.keys ty (node (value_of_kind sorts.«Type» kind) ps)
             × HasPut self.old.here self.new.here self.old.here.body (part.«Type» ty) first) }
         ensures refused { (ps : Pieces) (ts : Trees ActionSpan)
             → ShowsParts D.says ctx.old.types.keys content.now.parts.items ps
@@ -90,7 +91,7 @@ impl<D: TextDialect> Assembler<D> {
     ) -> Result<(), AssemblyFault>
         ensures made { (ps : Pieces) → ShowsParts D.says ctx.old.types.keys content.now.parts.items ps
             → OnOk result ((D.values.refused_attribute kind ps ≡ None) × (attr : D.Attr)
-            × ShowsAttribute D.says ctx.new.types.keys attr (node (attribute_of_kind kind) (D.values.canonical kind ps))
+            × ShowsAttribute D.says ctx.new.types.keys attr (node (value_of_kind sorts.Attribute kind) (D.values.canonical kind ps))
             × HasPut self.old.here self.new.here self.old.here.body (part.Attribute attr) first) }
         ensures refused { (ps : Pieces) (ts : Trees ActionSpan)
             → ShowsParts D.says ctx.old.types.keys content.now.parts.items ps

@@ -3,7 +3,8 @@ use Rattle.std.specs.Prelude.{◌≡◌, ℕ, List, Option, Some, None, slice_ge
 use Rattle.ir_base.specs.declared.types.TypeHandle.{TypeHandle}
 use Rattle.ir_names.specs.Tree.{node}
 use Rattle.ir_print.specs.declared.format.Part.{Part}
-use Rattle.ir_print.specs.Pieces.{Pieces, Values, attribute_of_kind}
+use Rattle.ir_print.specs.Pieces.{Pieces, Values, value_of_kind}
+use Rattle.ir_print.specs.declared.format.ValueSort.TheVariants as sorts
 use Rattle.ir_print.specs.Shown.{Saying, ShowsParts, ShowsKey, ShowsAttribute, Drafts}
 
 module _ {D K A T : Type 0} (says : Saying K A T) (values : Values) where
@@ -20,7 +21,7 @@ module _ {D K A T : Type 0} (says : Saying K A T) (values : Values) where
   -- the same of an attribute, which says its own pieces by the types after it was made
   abbrev pub MakesAttribute : {C : Type 0} → List C → C → (old new : List T) → List (Part D K A T) → A → Type 0
   MakesAttribute kinds kind old new parts attr = (n : ℕ) (ps : Pieces) → slice_get kinds n ≡ Some kind → ShowsParts says old parts ps →
-      (values.refused_attribute n ps ≡ None) × ShowsAttribute says new attr (node (attribute_of_kind n) (values.canonical n ps))
+      (values.refused_attribute n ps ≡ None) × ShowsAttribute says new attr (node (value_of_kind sorts.Attribute n) (values.canonical n ps))
 
   abbrev pub RefusesAttribute : {C : Type 0} → List C → C → List T → List (Part D K A T) → ℕ → Type 0
   RefusesAttribute kinds kind old parts i = (n : ℕ) (ps : Pieces) → slice_get kinds n ≡ Some kind → ShowsParts says old parts ps →

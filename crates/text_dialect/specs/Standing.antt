@@ -1,7 +1,5 @@
 -- Which operations, regions and blocks of a context have which trees of texts.
-use Rattle.std.specs.Prelude.{◌≡◌, ℕ, List, [], ◌∷◌, Option, Some, None, length}
-use Rattle.ir_names.specs.declared.identifier.Identifier.{Identifier}
-use Rattle.ir_names.specs.Identifier.{text_of}
+use Rattle.std.specs.Prelude.{◌≡◌, ℕ, List, [], ◌∷◌, Some, length}
 use Rattle.ir_names.specs.Tree.{Trees}
 use Rattle.ir_program.specs.Program.{TypedValue}
 use Rattle.ir_program.specs.declared.handles.Ptr.{Ptr}
@@ -11,17 +9,13 @@ use Rattle.ir_program.specs.declared.handles.BasicBlock.{BasicBlock}
 use Rattle.ir_program.specs.declared.handles.Value.{Value}
 use Rattle.ir_print.specs.Pieces.{ValueTree, Pieces, operation, a_region, block, Entity, entity, Entities, no_entity, an_entity}
 use Rattle.ir_print.specs.Shown.{Said, Saying, Pairs, ShowsAll, ShowsType}
+use Rattle.ir_print.specs.Printed.{IsLabel}
 use Rattle.text_dialect.specs.Seen.{SeenOperation, SeenBlock, Seen, types_of}
 
 -- how values and blocks are named
 pub record Naming (N : Type 0) : Type 1 where
   pub value : Value → N → Type 0
   pub block : Ptr BasicBlock → N → Type 0
-
--- the label of a block is this text
-abbrev pub IsLabel : Option Identifier → List ℕ → Type 0
-IsLabel (Some id) text = text_of id ≡ text
-IsLabel None text = ⊥
 
 module _ {K A T N : Type 0} (says : Saying K A T) (Named : Naming N) (types : List T) where
   -- a result or an argument has this name and this type

@@ -4,7 +4,8 @@ ghost use Rattle.ir_base.specs.declared.types.TypeHandle.{TypeHandle};
 ghost use Rattle.ir_names.specs.Tree.{Trees, node};
 ghost use Rattle.ir_print.specs.Formats.{Formats, Kind, is_small, steps_of};
 ghost use Rattle.ir_print.specs.Nested.{is_nested_little};
-ghost use Rattle.ir_print.specs.Pieces.{Pieces, Values, attribute_of_kind};
+ghost use Rattle.ir_print.specs.Pieces.{Pieces, Values, value_of_kind};
+ghost use Rattle.ir_print.specs.declared.format.ValueSort.TheVariants as sorts;
 ghost use Rattle.ir_print.specs.Shapes.{SaysTypes, SaysAttributes, SaysOperations};
 ghost use Rattle.ir_print.specs.Shown.{Said, Saying, ShowsAll, ShowsParts, ShowsKey, ShowsAttribute, Drafts};
 ghost use Rattle.ir_program.specs.Program.{operation_at};
@@ -162,7 +163,7 @@ pub trait TextDialect: DialectTables {
     /// The parts of an attribute.
     fn attr_parts(alloc: Global, attr: &Self::Attr) -> Result<Vec<Part<Self>>, AllocError>
         ensures { (types : List Self.TypeKey) → (n : ℕ) → (ps : Pieces) →
-            ShowsAttribute says types attr.now (node (attribute_of_kind n) ps) →
+            ShowsAttribute says types attr.now (node (value_of_kind sorts.Attribute n) ps) →
             IfOk result (λ parts. ShowsParts says types parts.items ps) };
 
     /// The parts of an operation. Operands and regions are given by how many there are of them.

@@ -5,7 +5,7 @@ use Rattle.std.specs.Global.{Global}
 use Rattle.ir_names.specs.Tree.{Trees, node, no_tree, a_tree, join, count}
 use Rattle.ir_program.specs.declared.handles.Ptr.{Ptr}
 use Rattle.ir_program.specs.declared.handles.BasicBlock.{BasicBlock}
-use Rattle.ir_print.specs.Pieces.{Piece, type_of_kind, ValueTree, Pieces, Values, a_region, block, Entity, entity, Entities, no_entity, an_entity}
+use Rattle.ir_print.specs.Pieces.{value_of_kind, ValueTree, Pieces, Values, a_region, block, Entity, entity, Entities, no_entity, an_entity}
 use Rattle.ir_print.specs.Shown.{Saying, operands_said}
 use Rattle.ir_grammar.specs.declared.grammar.Action.{Action}
 use Rattle.ir_grammar.specs.declared.grammar.Action.TheVariants as act
@@ -15,7 +15,7 @@ use Rattle.ir_forest.specs.Building.{behind}
 use Rattle.text_frames.specs.building.Trees.{with_last}
 use Rattle.text_frames.specs.Worlds.{PartialModule, IsReady, AreReady, AreReadyRegions}
 use Rattle.text_frames.specs.Raised.{listed, with_result, result_names, argument_token, argument_tokens, named_last, last_argument, is_header, has_header}
-use Rattle.text_frames.proofs.Moving.{is_number, is_width}
+use Rattle.ir_print.specs.declared.format.ValueSort.TheVariants as sorts
 use Rattle.ir_forest.proofs.PiecesBehind.{pieces_behind}
 
 -- ---- what is one of several by an action, with something done to it
@@ -118,34 +118,34 @@ module _ (values : Values) (text : ℕ → List ℕ) where
       go : (a : Action) → is_header a (has_header ts) ≡ true
           → ((n : ℕ) → has_header ts ≡ true → arguments_in values text n (behind ts (node s us)) ≡ arguments_in values text n ts)
           → by_argument a (arguments_in values text r.first (behind ts (node s us)))
-          (λ kind. (named, node (type_of_kind kind) (pieces_in values text rs)) ∷ arguments_in values text named (behind ts (node s us))) []
+          (λ kind. (named, node (value_of_kind sorts.«Type» kind) (pieces_in values text rs)) ∷ arguments_in values text named (behind ts (node s us))) []
           (arguments_in values text named (behind ts (node s us)))
-          ≡ by_argument a (arguments_in values text r.first ts) (λ kind. (named, node (type_of_kind kind) (pieces_in values text rs)) ∷ arguments_in values text named ts) []
+          ≡ by_argument a (arguments_in values text r.first ts) (λ kind. (named, node (value_of_kind sorts.«Type» kind) (pieces_in values text rs)) ∷ arguments_in values text named ts) []
           (arguments_in values text named ts)
       go act.Argument k more = more r.first k
-      go (act.BeginType kind) k more = ap (λ (xs : List (ℕ × ValueTree)). (named, node (type_of_kind kind) (pieces_in values text rs)) ∷ xs) (more named k)
+      go (act.Begin sorts.«Type» kind) k more = ap (λ (xs : List (ℕ × ValueTree)). (named, node (value_of_kind sorts.«Type» kind) (pieces_in values text rs)) ∷ xs) (more named k)
       go act.Header k more = refl
       go _ k more = more named k
 
   -- in a header a type is that of the last argument that is named
   pub arguments_behind : (named : ℕ) (ts : Trees ActionSpan) (s : ActionSpan) (us : Trees ActionSpan) → has_header ts ≡ false
       → arguments_in values text named (behind ts (node s us)) ≡ arguments_in values text named ts
-      ++ by_argument s.action [] (λ kind. (last_argument named ts, node (type_of_kind kind) (pieces_in values text us)) ∷ []) [] []
+      ++ by_argument s.action [] (λ kind. (last_argument named ts, node (value_of_kind sorts.«Type» kind) (pieces_in values text us)) ∷ []) [] []
   arguments_behind named no_tree s us h = refl
   arguments_behind named (a_tree (node r rs) ts) s us h = go r.action h (λ n k. arguments_behind n ts s us k)
     where
       added : ℕ → List (ℕ × ValueTree)
-      added n = by_argument s.action [] (λ kind. (last_argument n ts, node (type_of_kind kind) (pieces_in values text us)) ∷ []) [] []
+      added n = by_argument s.action [] (λ kind. (last_argument n ts, node (value_of_kind sorts.«Type» kind) (pieces_in values text us)) ∷ []) [] []
 
       go : (a : Action) → is_header a (has_header ts) ≡ false
           → ((n : ℕ) → has_header ts ≡ false → arguments_in values text n (behind ts (node s us)) ≡ arguments_in values text n ts ++ added n)
           → by_argument a (arguments_in values text r.first (behind ts (node s us)))
-          (λ kind. (named, node (type_of_kind kind) (pieces_in values text rs)) ∷ arguments_in values text named (behind ts (node s us))) []
+          (λ kind. (named, node (value_of_kind sorts.«Type» kind) (pieces_in values text rs)) ∷ arguments_in values text named (behind ts (node s us))) []
           (arguments_in values text named (behind ts (node s us)))
-          ≡ by_argument a (arguments_in values text r.first ts) (λ kind. (named, node (type_of_kind kind) (pieces_in values text rs)) ∷ arguments_in values text named ts) []
+          ≡ by_argument a (arguments_in values text r.first ts) (λ kind. (named, node (value_of_kind sorts.«Type» kind) (pieces_in values text rs)) ∷ arguments_in values text named ts) []
           (arguments_in values text named ts) ++ added (named_last named a r.first)
       go act.Argument k more = more r.first k
-      go (act.BeginType kind) k more = ap (λ (xs : List (ℕ × ValueTree)). (named, node (type_of_kind kind) (pieces_in values text rs)) ∷ xs) (more named k)
+      go (act.Begin sorts.«Type» kind) k more = ap (λ (xs : List (ℕ × ValueTree)). (named, node (value_of_kind sorts.«Type» kind) (pieces_in values text rs)) ∷ xs) (more named k)
       go act.Header k more = cc
       go _ k more = more named k
 
@@ -233,8 +233,6 @@ operands_are_said values text (a_tree (node s us) ts) = go s.action (operands_ar
         → operands_said (with_piece values a (text s.first) (count us) (pieces_in values text us) (pieces_in values text ts)) ≡ length (by_operands a (tokens_in us) [] ++ operands_in ts)
     go act.BeginOperands more = omega (arith, more, tokens_count us, length-append (tokens_in us) (operands_in ts))
     go act.BeginSuccessor more = omega (arith, more, tokens_count us, length-append (tokens_in us) (operands_in ts))
-    go act.Number more = let n = is_number (text s.first) in ap (λ (x : Piece). operands_said (a_tree (node x no_tree) (pieces_in values text ts))) n.2 ∙ more
-    go act.Width more = let n = is_width (text s.first) in ap (λ (x : Piece). operands_said (a_tree (node x no_tree) (pieces_in values text ts))) n.2 ∙ more
     go _ more = more
 
 -- ---- one more that stands for its tree

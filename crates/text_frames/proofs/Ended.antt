@@ -7,7 +7,7 @@ use Rattle.ir_names.specs.Tree.{Trees, node, no_tree, a_tree, join, count}
 use Rattle.ir_base.specs.declared.types.TypeHandle.{TypeHandle}
 use Rattle.ir_print.specs.declared.format.Part.{Part}
 use Rattle.ir_print.specs.declared.format.Part.TheVariants as part
-use Rattle.ir_print.specs.Pieces.{Pieces, Values, ValueTree, type_of_kind, attribute_of_kind, list, item, operands, successor, region}
+use Rattle.ir_print.specs.Pieces.{Pieces, Values, ValueTree, value_of_kind, list, item, operands, successor, region}
 use Rattle.ir_print.specs.Shown.{Saying, ShowsPart, ShowsMembers, ShowsType, ShowsAttribute}
 use Rattle.ir_program.specs.declared.handles.Ptr.{Ptr}
 use Rattle.ir_program.specs.declared.handles.BasicBlock.{BasicBlock}
@@ -25,12 +25,13 @@ use Rattle.ir_forest.specs.Meaning.{pieces_in, with_piece, tokens_in}
 use Rattle.ir_forest.specs.ValueFaults.{refused}
 use Rattle.ir_forest.specs.Building as building
 use Rattle.ir_forest.specs.Building.{behind, ended_tree, names_behind, with_name, number_fault, names_fault, names_fault_of, fault_at_end}
-use Rattle.ir_grammar.specs.Nesting.{Position, at_end, in_operation, in_header, in_block, in_type, in_attribute, in_list, in_item}
+use Rattle.ir_grammar.specs.Nesting.{Position, at_end, in_operation, in_header, in_block, in_value, in_list, in_item}
 use Rattle.text_frames.specs.Opened.{HasPut, HasBody}
 use Rattle.text_frames.specs.building.Kept.{KeepsKeys}
 use Rattle.text_frames.specs.Frames.{FrameSort, a_text, an_operation, some_operands, an_edge, a_region, a_block, a_type, an_attribute, a_list, an_item, sort_at, sort_of, TakesParts, TakesTypes, StandsAlone, EndsAt, Begins, NamesResults, SaysParts, Contains, IsFrame, BeganSo, Ending, Ended}
 use Rattle.text_frames.proofs.BuildingLemmas.ShownLater.{members_put}
 use Rattle.ir_forest.proofs.PiecesBehind.{pieces_behind, name_behind}
+use Rattle.ir_print.specs.declared.format.ValueSort.TheVariants as sorts
 use Rattle.text_frames.proofs.Framing.{frame_later, frame_put, count_tokens}
 
 -- ---- what has a sort
@@ -117,8 +118,8 @@ alone_names p names ts h e = hollow_names (sort_at p) names ts (alone_is_hollow 
 pub type_place : (p : Position) → TakesTypes p → (p ≡ in_header) ⊎ TakesParts (sort_at p)
 type_place in_header h = inl refl
 type_place in_operation h = inr tt
-type_place in_type h = inr tt
-type_place in_attribute h = inr tt
+type_place (in_value sorts.«Type») h = inr tt
+type_place (in_value sorts.Attribute) h = inr tt
 type_place in_item h = inr tt
 type_place _ h = absurd h
 
@@ -197,25 +198,25 @@ module _ {D K A T : Type 0} (says : Saying K A T) (values : Values) (text : ℕ 
       (subst (λ (k : ℕ). HasPut g h b x k) e.begun.first put) piece shown
 
   pub ended_type : (kind : ℕ) (ty : TypeHandle) → f.body ≡ body.«Type» kind → values.refused_type kind (pieces_in values text ts) ≡ None
-      → ShowsType says t ty (node (type_of_kind kind) (pieces_in values text ts)) → HasPut g h g.body (part.«Type» ty) f.first → Ended says values text t g h o next ts last
+      → ShowsType says t ty (node (value_of_kind sorts.«Type» kind) (pieces_in values text ts)) → HasPut g h g.body (part.«Type» ty) f.first → Ended says values text t g h o next ts last
   ended_type kind ty eb none shown put =
-      let begins : o.action ≡ act.BeginType kind = begins_as (body.«Type» kind) eb in
-      (no_fault values text o ts last (act.BeginType kind) begins none refl, placed (type_place next (ends_as says values text s f g o at next ts e (body.«Type» kind) eb)), began_same g h put.body put.first)
+      let begins : o.action ≡ act.Begin sorts.«Type» kind = begins_as (body.«Type» kind) eb in
+      (no_fault values text o ts last (act.Begin sorts.«Type» kind) begins none refl, placed (type_place next (ends_as says values text s f g o at next ts e (body.«Type» kind) eb)), began_same g h put.body put.first)
     where
       placed : (next ≡ in_header) ⊎ TakesParts (sort_at next) → IsFrame says values text t h next (behind o.before (ended_tree o ts last))
       placed (inl at_header) = frame_hollow says values text t h next o.before (record { action = o.action; first = o.first; last = last }) ts
           (ap sort_of put.body ∙ e.outer.sort) (subst (λ (p : Position). Hollow (sort_at p)) (sym at_header) tt)
           (put.names ∙ subst (λ (a : Action). [] ≡ with_name (names_behind [] o.before) a o.first) (sym (begins_as (body.«Type» kind) eb)) refl)
-      placed (inr takes) = part_put g.body (part.«Type» ty) (node (type_of_kind kind) (pieces_in values text ts)) takes refl put
+      placed (inr takes) = part_put g.body (part.«Type» ty) (node (value_of_kind sorts.«Type» kind) (pieces_in values text ts)) takes refl put
           (ap (λ (a : Action). with_piece values a (text o.first) (count ts) (pieces_in values text ts) no_tree) (begins_as (body.«Type» kind) eb))
           (ty, refl, shown)
 
   pub ended_attribute : (kind : ℕ) (attr : A) → f.body ≡ body.Attribute kind → values.refused_attribute kind (pieces_in values text ts) ≡ None
-      → ShowsAttribute says t attr (node (attribute_of_kind kind) (values.canonical kind (pieces_in values text ts))) → HasPut g h g.body (part.Attribute attr) f.first → Ended says values text t g h o next ts last
+      → ShowsAttribute says t attr (node (value_of_kind sorts.Attribute kind) (values.canonical kind (pieces_in values text ts))) → HasPut g h g.body (part.Attribute attr) f.first → Ended says values text t g h o next ts last
   ended_attribute kind attr eb none shown put =
-      let begins : o.action ≡ act.BeginAttribute kind = begins_as (body.Attribute kind) eb in (
-        no_fault values text o ts last (act.BeginAttribute kind) begins none refl,
-        part_put g.body (part.Attribute attr) (node (attribute_of_kind kind) (values.canonical kind (pieces_in values text ts))) (ends_as says values text s f g o at next ts e (body.Attribute kind) eb) refl put
+      let begins : o.action ≡ act.Begin sorts.Attribute kind = begins_as (body.Attribute kind) eb in (
+        no_fault values text o ts last (act.Begin sorts.Attribute kind) begins none refl,
+        part_put g.body (part.Attribute attr) (node (value_of_kind sorts.Attribute kind) (values.canonical kind (pieces_in values text ts))) (ends_as says values text s f g o at next ts e (body.Attribute kind) eb) refl put
             (ap (λ (a : Action). with_piece values a (text o.first) (count ts) (pieces_in values text ts) no_tree) begins)
             (attr, refl, shown),
         began_same g h put.body put.first,
@@ -285,10 +286,10 @@ module _ {D K A T : Type 0} (says : Saying K A T) (values : Values) (text : ℕ 
       (subst (λ (ns : List ℕ). option_map_or (λ i. number_fault ts last i) (values.refused_operation p.kind (pieces_in values text ts)) (names_fault ns f.first many last) ≡ Some fault) named w))
 
   pub type_refused : (kind i : ℕ) (fault : Fault) → f.body ≡ body.«Type» kind → values.refused_type kind (pieces_in values text ts) ≡ Some i → number_fault ts last i ≡ Some fault → fault_at_end values text ts (o ∷ []) last ≡ Some fault
-  type_refused kind i fault eb r w = number_refused values text o ts last (act.BeginType kind) (begins_as (body.«Type» kind) eb) fault i r w
+  type_refused kind i fault eb r w = number_refused values text o ts last (act.Begin sorts.«Type» kind) (begins_as (body.«Type» kind) eb) fault i r w
 
   pub attribute_refused : (kind i : ℕ) (fault : Fault) → f.body ≡ body.Attribute kind → values.refused_attribute kind (pieces_in values text ts) ≡ Some i → number_fault ts last i ≡ Some fault → fault_at_end values text ts (o ∷ []) last ≡ Some fault
-  attribute_refused kind i fault eb r w = number_refused values text o ts last (act.BeginAttribute kind) (begins_as (body.Attribute kind) eb) fault i r w
+  attribute_refused kind i fault eb r w = number_refused values text o ts last (act.Begin sorts.Attribute kind) (begins_as (body.Attribute kind) eb) fault i r w
 
   pub ended_list : (ms : Vec (Vec (Part D K A T) Global) Global) → f.body ≡ body.List ms → HasPut g h g.body (part.List ms) f.first → Ended says values text t g h o next ts last
   ended_list ms eb put =

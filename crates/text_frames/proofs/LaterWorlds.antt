@@ -18,10 +18,11 @@ use Rattle.text_frames.specs.declared.opened.Body.TheVariants as body
 use Rattle.text_frames.specs.declared.opened.Open.{Open}
 use Rattle.ir_forest.specs.Building as building
 use Rattle.ir_forest.specs.Forest.{ActionSpan}
-use Rattle.ir_grammar.specs.Nesting.{Position, at_root, behind_root_results, at_end, in_operation, in_operands, in_successor, in_region, in_header, in_argument, in_block, behind_results, in_type, in_attribute, in_list, in_item}
+use Rattle.ir_grammar.specs.Nesting.{Position, at_root, behind_root_results, at_end, in_operation, in_operands, in_successor, in_region, in_header, in_argument, in_block, behind_results, in_value, in_list, in_item}
 use Rattle.text_frames.specs.Worlds.{joined, NameTokens, PartialModule, AreAmong, LaterNames, LaterWorld, End, MayEndAs, IsMade, IsReady, AreReady, AreReadyRegions, IsOpenBlock}
 use Rattle.ir_grammar.specs.declared.grammar.Action.{Action}
 use Rattle.ir_scopes.specs.Naming.{defined_by, mentioned_by, labelled_by, label_mentioned_by}
+use Rattle.ir_print.specs.declared.format.ValueSort.TheVariants as sorts
 use Rattle.text_frames.specs.Raised.{names_after, listed_block, blocks_of_body, begun_at, RaisesRoot, IsHeader, IsOpened, RaisesBlock, Raises, IsRaised, RaisesAll}
 
 -- ---- lists
@@ -209,8 +210,7 @@ begun_behind in_header h = cc
 begun_behind in_argument h = cc
 begun_behind in_block h = cc
 begun_behind behind_results h = cc
-begun_behind in_type h = cc
-begun_behind in_attribute h = cc
+begun_behind (in_value sort) h = cc
 begun_behind in_list h = cc
 begun_behind in_item h = cc
 
@@ -231,8 +231,7 @@ module _ {K A T : Type 0} (says : Saying K A T) (values : Values) (text : â„• â†
   root_later old new in_argument ts keeps h = h
   root_later old new in_block ts keeps h = h
   root_later old new behind_results ts keeps h = h
-  root_later old new in_type ts keeps h = h
-  root_later old new in_attribute ts keeps h = h
+  root_later old new (in_value sort) ts keeps h = h
   root_later old new in_list ts keeps h = h
   root_later old new in_item ts keeps h = h
 

@@ -1,14 +1,19 @@
 -- Where an action leads to, by the action.
-use Rattle.std.proofs.Common.{◌≡◌, ℕ, List, [], ◌∷◌, Some, Bool, true, false, refl, ◌⊎◌, inl, inr}
+use Rattle.std.proofs.Common.{◌≡◌, ℕ, List, [], ◌∷◌, Some, Bool, true, false, refl, sym, subst, ◌⊎◌, inl, inr}
 use Rattle.std.specs.Prelude.{◌==◌, if◌then◌else◌}
 use Rattle.ir_names.specs.declared.kinds.Signedness.{Signedness}
 use Rattle.ir_names.specs.declared.kinds.Signedness.TheVariants.{Signless, Signed, Unsigned}
 use Rattle.ir_print.specs.Pieces.{number, width}
 use Rattle.ir_grammar.specs.declared.grammar.Action.TheVariants as act
-use Rattle.ir_forest.specs.Meaning.{digits, number_in, width_in, tail}
-use Rattle.ir_grammar.specs.Nesting.{Position, at_root, behind_root_results, at_end, in_operation, in_operands, in_successor, in_region, in_header, in_argument, in_block, behind_results, in_type, in_attribute, in_list, in_item, move}
+use Rattle.ir_forest.specs.Identifiers.{IsSpelt}
+use Rattle.ir_forest.specs.Meaning.{digits, leaf_in, number_in, width_in, tail}
+use Rattle.ir_grammar.specs.Nesting.{Position, at_root, behind_root_results, at_end, in_operation, in_operands, in_successor, in_region, in_header, in_argument, in_block, behind_results, in_value, in_list, in_item, move}
 use Rattle.ir_formats.specs.Ordered.{Standing, moved_by, moved_out}
 use Rattle.text_frames.specs.Frames.{FrameSort, an_operation, some_operands, an_edge, a_region, a_block, a_type, an_attribute, a_list, an_item, sort_at, TakesParts, EndsAt}
+use Rattle.ir_print.specs.declared.format.LeafSort.{LeafSort}
+use Rattle.ir_print.specs.declared.format.LeafSort.TheVariants as leaves
+use Rattle.ir_print.specs.declared.format.ValueSort.TheVariants as sorts
+use Rattle.text_frames.specs.Makes.{IsSpelled}
 use Rattle.text_frames.proofs.Ended.{Hollow}
 
 -- something of this sort begins, and behind it reading goes on in what is around it
@@ -47,25 +52,25 @@ module _ (around : List Position) (next : Standing) where
   block_begins in_region h = record { inner = in_header; outer = in_region; leads = cc; stays = refl; is_sort = refl; ends = refl }
   block_begins _ h = cc
 
-  pub type_begins : (p : Position) (n : ℕ) → moved_by (move p (act.BeginType n)) around ≡ Some next → GoesIn a_type p around next
-  type_begins in_operation n h = record { inner = in_type; outer = in_operation; leads = cc; stays = refl; is_sort = refl; ends = tt }
-  type_begins in_type n h = record { inner = in_type; outer = in_type; leads = cc; stays = refl; is_sort = refl; ends = tt }
-  type_begins in_attribute n h = record { inner = in_type; outer = in_attribute; leads = cc; stays = refl; is_sort = refl; ends = tt }
-  type_begins in_item n h = record { inner = in_type; outer = in_item; leads = cc; stays = refl; is_sort = refl; ends = tt }
-  type_begins in_argument n h = record { inner = in_type; outer = in_header; leads = cc; stays = refl; is_sort = refl; ends = tt }
+  pub type_begins : (p : Position) (n : ℕ) → moved_by (move p (act.Begin sorts.«Type» n)) around ≡ Some next → GoesIn a_type p around next
+  type_begins in_operation n h = record { inner = (in_value sorts.«Type»); outer = in_operation; leads = cc; stays = refl; is_sort = refl; ends = tt }
+  type_begins (in_value sorts.«Type») n h = record { inner = (in_value sorts.«Type»); outer = (in_value sorts.«Type»); leads = cc; stays = refl; is_sort = refl; ends = tt }
+  type_begins (in_value sorts.Attribute) n h = record { inner = (in_value sorts.«Type»); outer = (in_value sorts.Attribute); leads = cc; stays = refl; is_sort = refl; ends = tt }
+  type_begins in_item n h = record { inner = (in_value sorts.«Type»); outer = in_item; leads = cc; stays = refl; is_sort = refl; ends = tt }
+  type_begins in_argument n h = record { inner = (in_value sorts.«Type»); outer = in_header; leads = cc; stays = refl; is_sort = refl; ends = tt }
   type_begins _ n h = cc
 
-  pub attribute_begins : (p : Position) (n : ℕ) → moved_by (move p (act.BeginAttribute n)) around ≡ Some next → GoesIn an_attribute p around next
-  attribute_begins in_operation n h = record { inner = in_attribute; outer = in_operation; leads = cc; stays = refl; is_sort = refl; ends = tt }
-  attribute_begins in_type n h = record { inner = in_attribute; outer = in_type; leads = cc; stays = refl; is_sort = refl; ends = tt }
-  attribute_begins in_attribute n h = record { inner = in_attribute; outer = in_attribute; leads = cc; stays = refl; is_sort = refl; ends = tt }
-  attribute_begins in_item n h = record { inner = in_attribute; outer = in_item; leads = cc; stays = refl; is_sort = refl; ends = tt }
+  pub attribute_begins : (p : Position) (n : ℕ) → moved_by (move p (act.Begin sorts.Attribute n)) around ≡ Some next → GoesIn an_attribute p around next
+  attribute_begins in_operation n h = record { inner = (in_value sorts.Attribute); outer = in_operation; leads = cc; stays = refl; is_sort = refl; ends = tt }
+  attribute_begins (in_value sorts.«Type») n h = record { inner = (in_value sorts.Attribute); outer = (in_value sorts.«Type»); leads = cc; stays = refl; is_sort = refl; ends = tt }
+  attribute_begins (in_value sorts.Attribute) n h = record { inner = (in_value sorts.Attribute); outer = (in_value sorts.Attribute); leads = cc; stays = refl; is_sort = refl; ends = tt }
+  attribute_begins in_item n h = record { inner = (in_value sorts.Attribute); outer = in_item; leads = cc; stays = refl; is_sort = refl; ends = tt }
   attribute_begins _ n h = cc
 
   pub list_begins : (p : Position) → moved_by (move p act.BeginList) around ≡ Some next → GoesIn a_list p around next
   list_begins in_operation h = record { inner = in_list; outer = in_operation; leads = cc; stays = refl; is_sort = refl; ends = tt }
-  list_begins in_type h = record { inner = in_list; outer = in_type; leads = cc; stays = refl; is_sort = refl; ends = tt }
-  list_begins in_attribute h = record { inner = in_list; outer = in_attribute; leads = cc; stays = refl; is_sort = refl; ends = tt }
+  list_begins (in_value sorts.«Type») h = record { inner = in_list; outer = (in_value sorts.«Type»); leads = cc; stays = refl; is_sort = refl; ends = tt }
+  list_begins (in_value sorts.Attribute) h = record { inner = in_list; outer = (in_value sorts.Attribute); leads = cc; stays = refl; is_sort = refl; ends = tt }
   list_begins in_item h = record { inner = in_list; outer = in_item; leads = cc; stays = refl; is_sort = refl; ends = tt }
   list_begins _ h = cc
 
@@ -81,26 +86,12 @@ module _ (around : List Position) (next : Standing) where
   edge_begins in_operation h = record { inner = in_successor; outer = in_operation; leads = cc; stays = refl; is_sort = refl; ends = refl }
   edge_begins _ h = cc
 
-  pub name_stays : (p : Position) → moved_by (move p act.Name) around ≡ Some next → Stays p around next
-  name_stays in_operation h = record { leads = cc; takes = tt }
-  name_stays in_type h = record { leads = cc; takes = tt }
-  name_stays in_attribute h = record { leads = cc; takes = tt }
-  name_stays in_item h = record { leads = cc; takes = tt }
-  name_stays _ h = cc
-
-  pub number_stays : (p : Position) → moved_by (move p act.Number) around ≡ Some next → Stays p around next
-  number_stays in_operation h = record { leads = cc; takes = tt }
-  number_stays in_type h = record { leads = cc; takes = tt }
-  number_stays in_attribute h = record { leads = cc; takes = tt }
-  number_stays in_item h = record { leads = cc; takes = tt }
-  number_stays _ h = cc
-
-  pub width_stays : (p : Position) → moved_by (move p act.Width) around ≡ Some next → Stays p around next
-  width_stays in_operation h = record { leads = cc; takes = tt }
-  width_stays in_type h = record { leads = cc; takes = tt }
-  width_stays in_attribute h = record { leads = cc; takes = tt }
-  width_stays in_item h = record { leads = cc; takes = tt }
-  width_stays _ h = cc
+  pub leaf_stays : (p : Position) (sort : LeafSort) → moved_by (move p (act.Leaf sort)) around ≡ Some next → Stays p around next
+  leaf_stays in_operation sort h = record { leads = cc; takes = tt }
+  leaf_stays (in_value sorts.«Type») sort h = record { leads = cc; takes = tt }
+  leaf_stays (in_value sorts.Attribute) sort h = record { leads = cc; takes = tt }
+  leaf_stays in_item sort h = record { leads = cc; takes = tt }
+  leaf_stays _ sort h = cc
 
   pub result_goes : (p : Position) → moved_by (move p act.Result) around ≡ Some next → GoesTo p around next × Hollow (sort_at p)
   result_goes at_root h = (record { to = behind_root_results; leads = cc; stays = refl }, tt)
@@ -137,12 +128,12 @@ module _ (around : List Position) (next : Standing) where
   block_out in_block h = (h, refl)
   block_out _ h = cc
 
-  pub type_out : (p : Position) → moved_by (move p act.EndType) around ≡ Some next → (moved_out around ≡ Some next) × (sort_at p ≡ a_type)
-  type_out in_type h = (h, refl)
+  pub type_out : (p : Position) → moved_by (move p (act.End sorts.«Type»)) around ≡ Some next → (moved_out around ≡ Some next) × (sort_at p ≡ a_type)
+  type_out (in_value sorts.«Type») h = (h, refl)
   type_out _ h = cc
 
-  pub attribute_out : (p : Position) → moved_by (move p act.EndAttribute) around ≡ Some next → (moved_out around ≡ Some next) × (sort_at p ≡ an_attribute)
-  attribute_out in_attribute h = (h, refl)
+  pub attribute_out : (p : Position) → moved_by (move p (act.End sorts.Attribute)) around ≡ Some next → (moved_out around ≡ Some next) × (sort_at p ≡ an_attribute)
+  attribute_out (in_value sorts.Attribute) h = (h, refl)
   attribute_out _ h = cc
 
   pub operands_out : (p : Position) → moved_by (move p act.EndOperands) around ≡ Some next → (moved_out around ≡ Some next) × (sort_at p ≡ some_operands)
@@ -181,3 +172,9 @@ width_by false false l m n = (Signless, n, refl)
 pub is_width : (cs : List ℕ) → (sign : Signedness) × (bits : ℕ) × (width_in cs ≡ width sign bits)
 is_width [] = (Signless, 0, refl)
 is_width (c ∷ cs) = width_by (c == 115) (c == 117) (digits (tail cs)) (digits (tail cs)) (digits cs)
+
+-- what is said by a token that is spelt as a leaf of a sort asks
+pub spelt_leaf : (sort : LeafSort) (cs : List ℕ) → IsSpelt (act.Leaf sort) cs → IsSpelled (leaf_in sort cs)
+spelt_leaf leaves.Name cs h = h
+spelt_leaf leaves.Number cs h = subst IsSpelled (sym (is_number cs).2) tt
+spelt_leaf leaves.Width cs h = subst IsSpelled (sym (is_width cs).2) tt

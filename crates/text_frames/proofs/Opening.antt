@@ -5,7 +5,7 @@ use Rattle.ir_base.specs.declared.types.TypeHandle.{TypeHandle}
 use Rattle.ir_context.specs.Known.{AreKnownIn}
 use Rattle.ir_names.specs.Tree.{Trees, node}
 use Rattle.ir_program.specs.Program.{RegionView, operation_at, block_at, region_at}
-use Rattle.ir_print.specs.Pieces.{type_of_kind, attribute_of_kind, list, item, operands, successor, region, name, number, width, ValueTree}
+use Rattle.ir_print.specs.Pieces.{value_of_kind, list, item, operands, successor, region, leaf, name, number, width, ValueTree}
 use Rattle.text_dialect.specs.declared.dialect.MakeFault.{MakeFault}
 use Rattle.text_dialect.specs.declared.dialect.MakeFault.TheVariants as make
 use Rattle.ir_print.specs.declared.format.Part.{Part}
@@ -22,6 +22,7 @@ use Rattle.ir_forest.specs.Forest.{ActionSpan}
 use Rattle.text_frames.specs.Opened.{HasPut}
 use Rattle.text_dialect.specs.Seen.{seen, seen_operation, seen_block}
 use Rattle.text_frames.specs.building.Kept.{KeepsKeys, SameSeen}
+use Rattle.ir_print.specs.declared.format.ValueSort.TheVariants as sorts
 use Rattle.text_frames.proofs.BuildingLemmas.Opened.{ContextOf}
 
 -- a part that is put where the body has become another one
@@ -66,17 +67,15 @@ interned_same c d same keeps = record {
 -- a type that shows something is there
 module _ {K A T : Type 0} (says : Saying K A T) (types : List T) where
   known_one : (ty : TypeHandle) (t : ValueTree) → ShowsType says types ty t → ty.number < length types
-  known_one ty (node (type_of_kind n) ts) (u, key, us, e, at, says_it, all) = let same : ty ≡ u = cc in
+  known_one ty (node (value_of_kind sorts.«Type» n) ts) (u, key, us, e, at, says_it, all) = let same : ty ≡ u = cc in
       subst (λ (x : TypeHandle). x.number < length types) (sym same) (slice_get_within types u.number key at)
-  known_one ty (node (attribute_of_kind n) ts) (attr, us, e, says_it, all) = cc
+  known_one ty (node (value_of_kind sorts.Attribute n) ts) (attr, us, e, says_it, all) = cc
   known_one ty (node list ts) (us, e, all) = cc
   known_one ty (node item ts) (us, e, all) = cc
   known_one ty (node (operands n) ts) e = cc
   known_one ty (node (successor n) ts) e = cc
   known_one ty (node region ts) e = cc
-  known_one ty (node (name cs) ts) e = cc
-  known_one ty (node (number b m) ts) e = cc
-  known_one ty (node (width w m) ts) e = cc
+  known_one ty (node (leaf x) ts) e = cc
 
   -- types that show something are there
   pub shown_known : (tys : List TypeHandle) (ts : List ValueTree) → Pairs (ShowsType says types) tys ts

@@ -13,7 +13,8 @@ use Rattle.ir_forest.specs.Forest.{ActionSpan}
 use Rattle.ir_forest.specs.Meaning.{pieces_in, tokens_in}
 use Rattle.ir_forest.specs.Building as building
 use Rattle.ir_forest.specs.Building.{behind, ended_tree, names_behind, fault_at_end}
-use Rattle.ir_grammar.specs.Nesting.{Position, at_root, behind_root_results, at_end, in_operation, in_operands, in_successor, in_region, in_header, in_argument, in_block, behind_results, in_type, in_attribute, in_list, in_item}
+use Rattle.ir_print.specs.declared.format.ValueSort.TheVariants as sorts
+use Rattle.ir_grammar.specs.Nesting.{Position, at_root, behind_root_results, at_end, in_operation, in_operands, in_successor, in_region, in_header, in_argument, in_block, behind_results, in_value, in_list, in_item}
 
 -- ---- sorts
 
@@ -34,8 +35,8 @@ sort_at in_header = a_block
 sort_at in_argument = a_block
 sort_at in_block = a_block
 sort_at behind_results = a_block
-sort_at in_type = a_type
-sort_at in_attribute = an_attribute
+sort_at (in_value sorts.«Type») = a_type
+sort_at (in_value sorts.Attribute) = an_attribute
 sort_at in_list = a_list
 sort_at in_item = an_item
 
@@ -88,8 +89,8 @@ module _ {D K A T : Type 0} where
   -- what has this body begins by this action
   abbrev pub Begins : Body D K A T → Action → Type 0
   Begins body.Text a = ⊥
-  Begins (body.«Type» n) a = a ≡ act.BeginType n
-  Begins (body.Attribute n) a = a ≡ act.BeginAttribute n
+  Begins (body.«Type» n) a = a ≡ act.Begin sorts.«Type» n
+  Begins (body.Attribute n) a = a ≡ act.Begin sorts.Attribute n
   Begins (body.List ms) a = a ≡ act.BeginList
   Begins body.Item a = a ≡ act.BeginItem
   Begins (body.Operation o) a = a ≡ act.Operation o.kind

@@ -5,18 +5,23 @@ ghost use Rattle.ir_names.specs.declared.identifier.Identifier.{Identifier};
 ghost use Rattle.ir_names.specs.Identifier.{text_of, invalid};
 ghost use Rattle.ir_names.specs.Text.{is_identifier};
 ghost use Rattle.ir_names.specs.Tree.{node};
-ghost use Rattle.ir_print.specs.Pieces.{Pieces, type_of_kind, attribute_of_kind};
-ghost use Rattle.ir_print.specs.Shown.{ShowsParts, ShowsType, ShowsAttribute, Drafts};
+ghost use Rattle.ir_forest.specs.Meaning.{leaf_in};
+ghost use Rattle.ir_print.specs.Pieces.{Pieces, value_of_kind};
+ghost use Rattle.ir_print.specs.Shown.{IsLeaf, ShowsParts, ShowsType, ShowsAttribute, Drafts};
+ghost use Rattle.ir_print.specs.declared.format.LeafValue.{LeafValue};
+ghost use Rattle.ir_print.specs.declared.format.ValueSort.TheVariants as sorts;
 ghost use Rattle.ir_types.specs.Interned.{KeepsTypes};
 ghost use Rattle.text_dialect.specs.declared.dialect.MakeFault.TheVariants.{Refused};
-ghost use Rattle.text_frames.specs.Makes.{types_in};
+ghost use Rattle.text_frames.specs.Makes.{IsSpelled, types_in};
 
 use ir_characters::Text;
 use ir_context::Context;
 use ir_names::{Identifier, IdentifierError, InvalidIdentifier, TypeHandle};
-use ir_print::Part;
+use ir_print::{LeafSort, LeafValue, Part};
 use std::alloc::{AllocError, Global};
 use text_dialect::{MakeFault, OperationDraft, TextDialect};
+
+use crate::source::{number_of, width_of};
 
 /// The type of these parts, of the kind with a number, or the first part that is refused.
 pub fn make_type<D: TextDialect>(
@@ -29,7 +34,7 @@ pub fn make_type<D: TextDialect>(
     ensures types { KeepsTypes ctx.old.types ctx.new.types }
     ensures made { (ps : Pieces) → ShowsParts D.says ctx.old.types.keys parts.now ps → IfOk result (λ ty.
         (D.values.refused_type kind ps ≡ None)
-        × ShowsType D.says ctx.new.types.keys ty (node (type_of_kind kind) ps)) }
+        × ShowsType D.says ctx.new.types.keys ty (node (value_of_kind sorts.«Type» kind) ps)) }
     ensures refused { (ps : Pieces) → ShowsParts D.says ctx.old.types.keys parts.now ps → (i : ℕ)
         → result ≡ Err (Refused i) → D.values.refused_type kind ps ≡ Some i }
 {
@@ -52,7 +57,7 @@ pub fn make_attribute<D: TextDialect>(
     ensures types { KeepsTypes ctx.old.types ctx.new.types }
     ensures made { (ps : Pieces) → ShowsParts D.says ctx.old.types.keys parts.now ps → IfOk result (λ attr.
         (D.values.refused_attribute kind ps ≡ None)
-        × ShowsAttribute D.says ctx.new.types.keys attr (node (attribute_of_kind kind) (D.values.canonical kind ps))) }
+        × ShowsAttribute D.says ctx.new.types.keys attr (node (value_of_kind sorts.Attribute kind) (D.values.canonical kind ps))) }
     ensures refused { (ps : Pieces) → ShowsParts D.says ctx.old.types.keys parts.now ps → (i : ℕ)
         → result ≡ Err (Refused i) → D.values.refused_attribute kind ps ≡ Some i }
 {
@@ -108,6 +113,21 @@ pub fn label_of(alloc: Global, text: Text) -> Result<Option<Identifier>, AllocEr
         Ok(label) => Ok(Some(label)),
         Err(IdentifierError::Memory) => Err(AllocError),
         Err(_) => Ok(None),
+    }
+}
+
+/// What a token says that is a leaf of a sort. There is none where it should be a name and isn't.
+pub fn leaf_of(alloc: Global, sort: LeafSort, text: Text) -> Result<Option<LeafValue>, AllocError>
+    ensures { IsSpelled (leaf_in sort (codes_of text.entry)) → IfOk result (λ leaf. (l : LeafValue)
+        × (leaf ≡ Some l) × IsLeaf l (leaf_in sort (codes_of text.entry))) }
+{
+    match sort {
+        LeafSort::Name => Ok(label_of(alloc, text)?.map(LeafValue::Name)),
+        LeafSort::Number => Ok(Some(LeafValue::Number(number_of(text)))),
+        LeafSort::Width => {
+            let (signedness, width) = width_of(text);
+            Ok(Some(LeafValue::Width(signedness, width)))
+        }
     }
 }
 

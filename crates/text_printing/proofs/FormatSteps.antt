@@ -1,9 +1,11 @@
 -- What each directive stands for.
 use Rattle.std.proofs.Common.{◌≡◌, ap, sym, ◌∙◌, List, ℕ, Bor}
 use Rattle.std.specs.Str.{trim}
-use Rattle.ir_print.specs.Formats.{steps_of, step_of, Step, step_by, word, operands, operand, successor, an_attribute, a_type, a_region, symbol_name, a_name, a_number, a_width, list_of}
+use Rattle.ir_print.specs.Formats.{steps_of, step_of, Step, step_by, word, operands, operand, successor, a_value, a_region, symbol_name, a_leaf, list_of}
 use Rattle.ir_print.specs.declared.format.Directive.{Directive, Directive-F, fold-Directive, fold-roll-Directive}
 use Rattle.ir_print.specs.declared.format.Directive as directive
+use Rattle.ir_print.specs.declared.format.LeafSort.TheVariants as leaves
+use Rattle.ir_print.specs.declared.format.ValueSort.TheVariants as sorts
 use Rattle.ir_print.specs.declared.format.Directive.TheVariants.{rolls-List, rolls-Literal, rolls-Operands, rolls-Operand, rolls-Successor, rolls-Attribute, rolls-Type, rolls-Region, rolls-SymbolHeader, rolls-Name, rolls-Number, rolls-Width}
 
 pub step_of-Literal : (text : Bor (List ℕ)) → step_of (directive.Literal text) ≡ word text.now (trim text.now)
@@ -21,10 +23,10 @@ step_of-Operand = ap step_of (sym rolls-Operand) ∙ fold-roll-Directive Step st
 pub step_of-Successor : step_of directive.Successor ≡ successor
 step_of-Successor = ap step_of (sym rolls-Successor) ∙ fold-roll-Directive Step step_by Directive-F.Successor
 
-pub step_of-Attribute : step_of directive.Attribute ≡ an_attribute
+pub step_of-Attribute : step_of directive.Attribute ≡ a_value sorts.Attribute
 step_of-Attribute = ap step_of (sym rolls-Attribute) ∙ fold-roll-Directive Step step_by Directive-F.Attribute
 
-pub step_of-Type : step_of directive.«Type» ≡ a_type
+pub step_of-Type : step_of directive.«Type» ≡ a_value sorts.«Type»
 step_of-Type = ap step_of (sym rolls-Type) ∙ fold-roll-Directive Step step_by Directive-F.«Type»
 
 pub step_of-Region : step_of directive.Region ≡ a_region
@@ -33,13 +35,13 @@ step_of-Region = ap step_of (sym rolls-Region) ∙ fold-roll-Directive Step step
 pub step_of-SymbolHeader : step_of directive.SymbolHeader ≡ symbol_name
 step_of-SymbolHeader = ap step_of (sym rolls-SymbolHeader) ∙ fold-roll-Directive Step step_by Directive-F.SymbolHeader
 
-pub step_of-Name : step_of directive.Name ≡ a_name
+pub step_of-Name : step_of directive.Name ≡ a_leaf leaves.Name
 step_of-Name = ap step_of (sym rolls-Name) ∙ fold-roll-Directive Step step_by Directive-F.Name
 
-pub step_of-Number : step_of directive.Number ≡ a_number
+pub step_of-Number : step_of directive.Number ≡ a_leaf leaves.Number
 step_of-Number = ap step_of (sym rolls-Number) ∙ fold-roll-Directive Step step_by Directive-F.Number
 
-pub step_of-Width : step_of directive.Width ≡ a_width
+pub step_of-Width : step_of directive.Width ≡ a_leaf leaves.Width
 step_of-Width = ap step_of (sym rolls-Width) ∙ fold-roll-Directive Step step_by Directive-F.Width
 
 -- what the directives of a format stand for

@@ -1,5 +1,6 @@
 pub mod FormatSteps
 pub mod Owed
+pub mod Leaves
 pub mod Written
 pub mod ValuesOwed
 pub mod ListOwed

@@ -17,7 +17,7 @@ use Rattle.text_printing.specs.declared.operations.Progress.{Progress}
 use Rattle.ir_print.specs.Formats.{Formats, Step, step_of, steps_of}
 use Rattle.ir_print.specs.Layout.{Chunk, spell, Before, an_id, a_word, Printer, gap_of_word, format_on, step_on, word_of, all_parts_on, regions_on, AreFlat}
 use Rattle.text_printing.specs.PartPrinted.{head_on, names_after, labels_after, entities_after, gapped_on, before_after, AreLeft, PartPrinted}
-use Rattle.ir_print.specs.Pieces.{type_of_kind, attribute_of_kind, list, item, operands, successor, region, name, number, width, ValueTree, Pieces, Entities, no_entity, an_entity}
+use Rattle.ir_print.specs.Pieces.{value_of_kind, list, item, operands, successor, region, leaf, ValueTree, Pieces, Entities, no_entity, an_entity}
 use Rattle.text_printing.specs.Printing.{before_of, AddsText, AreReadable}
 use Rattle.ir_print.specs.Shown.{Saying, ShowsParts}
 use Rattle.text_printing.proofs.FormatSteps.{step_of-Literal}
@@ -28,17 +28,14 @@ use Rattle.text_printing.proofs.ValuesOwed.{no_word, word_spelled}
 parts_step : (f : Formats) (n : ℕ) (t : ValueTree) (ts : Pieces) (us ls : List (List ℕ)) (es : Entities (List ℕ))
     → all_parts_on f (a_tree t ts) us ls (regions_on f n es)
     ≡ head_on f t us ls (regions_on f n es) ∷ all_parts_on f ts (names_after t us) (labels_after t ls) (regions_on f n (entities_after t es))
-parts_step f n (node (type_of_kind k) xs) ts us ls es = refl
-parts_step f n (node (attribute_of_kind k) xs) ts us ls es = refl
+parts_step f n (node (value_of_kind sort k) xs) ts us ls es = refl
 parts_step f n (node list xs) ts us ls es = refl
 parts_step f n (node item xs) ts us ls es = refl
 parts_step f n (node (operands k) xs) ts us ls es = refl
 parts_step f n (node (successor k) xs) ts us ls es = refl
 parts_step f n (node region xs) ts us ls no_entity = refl
 parts_step f n (node region xs) ts us ls (an_entity e es) = refl
-parts_step f n (node (name cs) xs) ts us ls es = refl
-parts_step f n (node (number negative magnitude) xs) ts us ls es = refl
-parts_step f n (node (width sign bits) xs) ts us ls es = refl
+parts_step f n (node (leaf x) xs) ts us ls es = refl
 
 -- a part at a step that is no word, and what is behind it
 gapped : (before : Before) (s : Step) (o : Option Printer) (ps : List (Option Printer)) (more : Before → List (Option Printer) → List Chunk) → word_of s ≡ None

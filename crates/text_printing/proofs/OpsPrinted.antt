@@ -10,13 +10,14 @@ use Rattle.ir_program.specs.declared.handles.Region.{Region}
 use Rattle.ir_program.specs.declared.handles.BasicBlock.{BasicBlock}
 use Rattle.ir_program.specs.declared.handles.Value.{Value}
 use Rattle.ir_print.specs.declared.format.Part.{Part, Part-F, out-Part}
+use Rattle.ir_print.specs.declared.format.ValueSort.TheVariants as sorts
 use Rattle.ir_print.specs.declared.format.Part.TheVariants as part
 use Rattle.ir_print.specs.declared.format.Part.TheVariants.{outs-Operands, outs-Successor, outs-Region}
 use Rattle.text_printing.specs.declared.operations.Progress.{Progress}
 use Rattle.ir_print.specs.Formats.{Formats, Step}
 use Rattle.ir_print.specs.Layout.{Chunk, white, token, spell, Before, a_part, gap_of_part, piece_on, operands_on, edge_on, first_region_on, regions_on, names_on, Deeper, IsFlat, AreShallow}
 use Rattle.text_printing.specs.PartPrinted.{other_entities, gapped_on, before_after, AreLeft, IsPartPrinted, PartPrinted}
-use Rattle.ir_print.specs.Pieces.{type_of_kind, attribute_of_kind, list, item, operands, successor, region, name, number, width, ValueTree, operation, a_region, block, entity, Entities, no_entity, an_entity}
+use Rattle.ir_print.specs.Pieces.{value_of_kind, list, item, operands, successor, region, leaf, ValueTree, operation, a_region, block, entity, Entities, no_entity, an_entity}
 use Rattle.text_dialect.specs.Seen.{SeenBlock, Seen}
 use Rattle.text_dialect.specs.Printed.{IsValueName, block_name, label_front, printed_names}
 use Rattle.text_printing.specs.Added.{AddsOperandNames, AddsEdge, AddsRegion, PrintsRegions}
@@ -127,6 +128,8 @@ module _ {D K A T : Type 0} (says : Saying K A T) (f : Formats) (s : Seen K A T)
               shallow = w.shallow;
             };
           }
+      one (node (value_of_kind sorts.«Type» kind) ts) us ls es rest h k r w = absurd (omega (arith, part_sorts says s.types p (value_of_kind sorts.«Type» kind) ts h, ap (sort_in says s.types) e ∙ ap part_sort (outs-Operands {X1 = D} {X2 = K} {X3 = A} {X4 = T} n)))
+      one (node (value_of_kind sorts.Attribute kind) ts) us ls es rest h k r w = absurd (omega (arith, part_sorts says s.types p (value_of_kind sorts.Attribute kind) ts h, ap (sort_in says s.types) e ∙ ap part_sort (outs-Operands {X1 = D} {X2 = K} {X3 = A} {X4 = T} n)))
       one (node q ts) us ls es rest h k r w = absurd (omega (arith, part_sorts says s.types p q ts h, ap (sort_in says s.types) e ∙ ap part_sort (outs-Operands {X1 = D} {X2 = K} {X3 = A} {X4 = T} n)))
 
   -- a type, an attribute or another part that stands for itself
@@ -146,13 +149,10 @@ module _ {D K A T : Type 0} (says : Saying K A T) (f : Formats) (s : Seen K A T)
       one (node (operands m) ts) us ls es rest h k r w = absurd (no_operands m h)
       one (node (successor m) ts) us ls es rest h k r w = absurd (no_edge m h)
       one (node region ts) us ls es rest h k r w = absurd (no_region h)
-      one (node (type_of_kind n) ts) us ls es rest h k r w = record { text = plain (node (type_of_kind n) ts) rest h k r; before_is = eb; are_left = same w }
-      one (node (attribute_of_kind n) ts) us ls es rest h k r w = record { text = plain (node (attribute_of_kind n) ts) rest h k r; before_is = eb; are_left = same w }
+      one (node (value_of_kind sort n) ts) us ls es rest h k r w = record { text = plain (node (value_of_kind sort n) ts) rest h k r; before_is = eb; are_left = same w }
       one (node list ts) us ls es rest h k r w = record { text = plain (node list ts) rest h k r; before_is = eb; are_left = same w }
       one (node item ts) us ls es rest h k r w = absurd h
-      one (node (name cs) ts) us ls es rest h k r w = record { text = plain (node (name cs) ts) rest h k r; before_is = eb; are_left = same w }
-      one (node (number negative magnitude) ts) us ls es rest h k r w = record { text = plain (node (number negative magnitude) ts) rest h k r; before_is = eb; are_left = same w }
-      one (node (width sign bits) ts) us ls es rest h k r w = record { text = plain (node (width sign bits) ts) rest h k r; before_is = eb; are_left = same w }
+      one (node (leaf l) ts) us ls es rest h k r w = record { text = plain (node (leaf l) ts) rest h k r; before_is = eb; are_left = same w }
 
   -- no region is shallow enough where none is left
   no_region_below : (rs : List (Ptr Region)) (es : Entities (List ℕ)) → PrintsRegions says s rs es → AreShallow 0 es → es ≡ no_entity
@@ -184,6 +184,8 @@ module _ {D K A T : Type 0} (says : Saying K A T) (f : Formats) (s : Seen K A T)
             before_is = eb;
             are_left = rw (eo, eg, er) (subst (λ x. AreLeft says s values its_successors its_regions left progress.operands progress.successors progress.regions us ls x) (z ∙ ap other_entities (sym z)) w);
           }
+      one (node (value_of_kind sorts.«Type» n) ts) us ls es rest h k r w = absurd (omega (arith, part_sorts says s.types p (value_of_kind sorts.«Type» n) ts h, ap (sort_in says s.types) e ∙ ap part_sort (outs-Region {X1 = D} {X2 = K} {X3 = A} {X4 = T})))
+      one (node (value_of_kind sorts.Attribute n) ts) us ls es rest h k r w = absurd (omega (arith, part_sorts says s.types p (value_of_kind sorts.Attribute n) ts h, ap (sort_in says s.types) e ∙ ap part_sort (outs-Region {X1 = D} {X2 = K} {X3 = A} {X4 = T})))
       one (node q ts) us ls es rest h k r w = absurd (omega (arith, part_sorts says s.types p q ts h, ap (sort_in says s.types) e ∙ ap part_sort (outs-Region {X1 = D} {X2 = K} {X3 = A} {X4 = T})))
 
   -- the first region
@@ -221,6 +223,8 @@ module _ {D K A T : Type 0} (says : Saying K A T) (f : Formats) (s : Seen K A T)
               shallow = x.2;
             };
           }
+      one (node (value_of_kind sorts.«Type» n) ts) us ls es rest h k r w = absurd (omega (arith, part_sorts says s.types p (value_of_kind sorts.«Type» n) ts h, ap (sort_in says s.types) e ∙ ap part_sort (outs-Region {X1 = D} {X2 = K} {X3 = A} {X4 = T})))
+      one (node (value_of_kind sorts.Attribute n) ts) us ls es rest h k r w = absurd (omega (arith, part_sorts says s.types p (value_of_kind sorts.Attribute n) ts h, ap (sort_in says s.types) e ∙ ap part_sort (outs-Region {X1 = D} {X2 = K} {X3 = A} {X4 = T})))
       one (node q ts) us ls es rest h k r w = absurd (omega (arith, part_sorts says s.types p q ts h, ap (sort_in says s.types) e ∙ ap part_sort (outs-Region {X1 = D} {X2 = K} {X3 = A} {X4 = T})))
 
   -- an edge, if there is one
@@ -254,6 +258,8 @@ module _ {D K A T : Type 0} (says : Saying K A T) (f : Formats) (s : Seen K A T)
               shallow = w.shallow;
             };
           }
+      one (node (value_of_kind sorts.«Type» kind) ts) us ls es rest h k r w = absurd (omega (arith, part_sorts says s.types p (value_of_kind sorts.«Type» kind) ts h, ap (sort_in says s.types) e ∙ ap part_sort (outs-Successor {X1 = D} {X2 = K} {X3 = A} {X4 = T} n)))
+      one (node (value_of_kind sorts.Attribute kind) ts) us ls es rest h k r w = absurd (omega (arith, part_sorts says s.types p (value_of_kind sorts.Attribute kind) ts h, ap (sort_in says s.types) e ∙ ap part_sort (outs-Successor {X1 = D} {X2 = K} {X3 = A} {X4 = T} n)))
       one (node q ts) us ls es rest h k r w = absurd (omega (arith, part_sorts says s.types p q ts h, ap (sort_in says s.types) e ∙ ap part_sort (outs-Successor {X1 = D} {X2 = K} {X3 = A} {X4 = T} n)))
 
 -- ---- edges

@@ -6,7 +6,7 @@ use Rattle.ir_print.specs.Formats as step
 use Rattle.ir_print.specs.Formats.{Formats, Kind, Step, Steps}
 use Rattle.ir_print.specs.Layout.{Deeper}
 use Rattle.ir_print.specs.Nested.{is_nested, are_nested, kinds_nested, is_nested_little}
-use Rattle.ir_print.specs.Pieces.{type_of_kind, attribute_of_kind, list, item, operands, successor, region, name, number, width, ValueTree, Pieces}
+use Rattle.ir_print.specs.Pieces.{value_of_kind, list, item, operands, successor, region, leaf, ValueTree, Pieces}
 use Rattle.text_printing.specs.Printing.{IsReadable, AreReadable}
 use Rattle.ir_print.specs.Shapes.{parts_in, IsListOf, IsSaidAt, AreSaidAt, AreMembersSaidAt, IsMemberSaidAt}
 use Rattle.ir_print.specs.Shown.{Saying, Shows, ShowsAll, Said, said_list, said_item}
@@ -27,13 +27,10 @@ parts_nested d (step.step (step.word printed text) ss) h = parts_nested d ss h
 parts_nested d (step.step step.operands ss) h = (refl, parts_nested d ss h)
 parts_nested d (step.step step.operand ss) h = (refl, parts_nested d ss h)
 parts_nested d (step.step step.successor ss) h = (refl, parts_nested d ss h)
-parts_nested d (step.step step.an_attribute ss) h = (refl, parts_nested d ss h)
-parts_nested d (step.step step.a_type ss) h = (refl, parts_nested d ss h)
+parts_nested d (step.step (step.a_value sort) ss) h = (refl, parts_nested d ss h)
 parts_nested d (step.step step.a_region ss) h = (refl, parts_nested d ss h)
 parts_nested d (step.step step.symbol_name ss) h = (refl, parts_nested d ss h)
-parts_nested d (step.step step.a_name ss) h = (refl, parts_nested d ss h)
-parts_nested d (step.step step.a_number ss) h = (refl, parts_nested d ss h)
-parts_nested d (step.step step.a_width ss) h = (refl, parts_nested d ss h)
+parts_nested d (step.step (step.a_leaf sort) ss) h = (refl, parts_nested d ss h)
 parts_nested d (step.step (step.list_of member printed text) ss) h = let b = both (is_nested d (step.list_of member printed text)) (are_nested d ss) h in (b.0, parts_nested d ss b.1)
 
 -- the members of a list, one list deeper
@@ -46,16 +43,13 @@ readable_list d _ us ts n h members = absurd h
 module _ {K A T : Type 0} (says : Saying K A T) (types : List T) where
   mutual
     readable_one : (d : ℕ) (s : Step) (u : LabelledTree (Said A)) (t : ValueTree) → is_nested d s ≡ true → IsSaidAt s u → Shows says types u t → IsReadable d t
-    readable_one d s u (node (type_of_kind n) ts) k h x = tt
-    readable_one d s u (node (attribute_of_kind n) ts) k h x = tt
+    readable_one d s u (node (value_of_kind sort n) ts) k h x = tt
     readable_one d s u (node list ts) k h x = readable_list d s x.0 ts k (subst (λ y. IsSaidAt s y) x.1 h) (λ e ss n m. readable_members e ss x.0 ts n m x.2)
     readable_one d s u (node item ts) k h x = let o : IsSaidAt s (node said_item x.0) = subst (λ y. IsSaidAt s y) x.1 h in absurd o
     readable_one d s u (node (operands n) ts) k h x = tt
     readable_one d s u (node (successor n) ts) k h x = tt
     readable_one d s u (node region ts) k h x = tt
-    readable_one d s u (node (name cs) ts) k h x = tt
-    readable_one d s u (node (number negative magnitude) ts) k h x = (subst (λ y. IsSaidAt s y) x h).1
-    readable_one d s u (node (width sign bits) ts) k h x = (subst (λ y. IsSaidAt s y) x h).1
+    readable_one d s u (node (leaf l) ts) k h x = (subst (λ y. IsSaidAt s y) x h).1
 
     readable_parts : (d : ℕ) (ss : List Step) (us : Trees (Said A)) (ts : Pieces) → AllNested d ss → AreSaidAt ss us → ShowsAll says types us ts → AreReadable d ts
     readable_parts d ss us no_tree k h x = tt
@@ -70,16 +64,13 @@ module _ {K A T : Type 0} (says : Saying K A T) (types : List T) where
     readable_members d ss (a_tree u us) (a_tree t ts) k h x = (readable_member d ss u t k h.0 x.0, readable_members d ss us ts k h.1 x.1)
 
     readable_member : (d : ℕ) (ss : List Step) (u : LabelledTree (Said A)) (t : ValueTree) → AllNested d ss → IsMemberSaidAt ss u → Shows says types u t → IsReadable d t
-    readable_member d ss u (node (type_of_kind n) ts) k h x = tt
-    readable_member d ss u (node (attribute_of_kind n) ts) k h x = tt
+    readable_member d ss u (node (value_of_kind sort n) ts) k h x = tt
     readable_member d ss u (node list ts) k h x = let o : IsMemberSaidAt ss (node said_list x.0) = subst (λ y. IsMemberSaidAt ss y) x.1 h in absurd o
     readable_member d ss u (node item ts) k h x = readable_parts d ss x.0 ts k (subst (λ y. IsMemberSaidAt ss y) x.1 h) x.2
     readable_member d ss u (node (operands n) ts) k h x = tt
     readable_member d ss u (node (successor n) ts) k h x = tt
     readable_member d ss u (node region ts) k h x = tt
-    readable_member d ss u (node (name cs) ts) k h x = tt
-    readable_member d ss u (node (number negative magnitude) ts) k h x = absurd (subst (λ y. IsMemberSaidAt ss y) x h)
-    readable_member d ss u (node (width sign bits) ts) k h x = absurd (subst (λ y. IsMemberSaidAt ss y) x h)
+    readable_member d ss u (node (leaf l) ts) k h x = absurd (subst (λ y. IsMemberSaidAt ss y) x h)
 
   -- what is said at the steps of a format can be read
   pub readable : (d : ℕ) (format : Steps) (us : Trees (Said A)) (ts : Pieces) → are_nested d format ≡ true → AreSaidAt (parts_in format) us → ShowsAll says types us ts → AreReadable d ts

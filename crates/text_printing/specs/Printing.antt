@@ -1,12 +1,14 @@
 -- What the parts of printing say of themselves.
-use Rattle.std.specs.Prelude.{◌≡◌, ℕ, ◌<◌, ◌^◌, Bool, true, false, List, ◌++◌, Option, codes}
+use Rattle.std.specs.Prelude.{◌≡◌, ℕ, ◌<◌, ◌^◌, Bool, true, false, List, [], ◌++◌, Option, codes}
 use Rattle.ir_names.specs.Tree.{node, no_tree, a_tree}
 use Rattle.ir_names.specs.declared.kinds.Signedness.{Signedness}
 use Rattle.ir_print.specs.declared.format.Number.{Number}
-use Rattle.ir_print.specs.Formats.{Step}
-use Rattle.ir_print.specs.Layout.{Chunk, spell, line, Before, an_id, a_word, a_part, Deeper, name_on, number_text, width_text}
-use Rattle.ir_print.specs.Pieces.{type_of_kind, attribute_of_kind, list, item, operands, successor, region, name, number, width, ValueTree, Pieces}
-use Rattle.ir_print.specs.Shown.{IsNumber, IsWidth}
+use Rattle.ir_print.specs.Formats.{Step, symbol_name}
+use Rattle.ir_print.specs.Layout.{Chunk, spell, line, Before, an_id, a_word, a_part, Deeper, leaf_on, leaf_text, number_text, width_text}
+use Rattle.ir_print.specs.Pieces.{value_of_kind, list, item, operands, successor, region, leaf, Leaf, ValueTree, Pieces}
+use Rattle.ir_print.specs.Shown.{IsNumber, IsWidth, IsLeaf}
+use Rattle.ir_print.specs.Shapes.{IsInRange}
+use Rattle.ir_print.specs.declared.format.LeafValue.{LeafValue}
 use Rattle.text_printing.specs.declared.words.Before as code
 use Rattle.text_printing.specs.declared.words.Before.TheVariants as code_before
 
@@ -25,10 +27,6 @@ next_line false n = codes ";" ++ line n
 abbrev pub AddsText : (old new : List ℕ) → List Chunk → List Chunk → Type 0
 AddsText old new rest whole = new ++ spell rest ≡ old ++ spell whole
 
--- a name was written, at this step of a format
-abbrev pub AddsName : Step → List ℕ → (old new : List ℕ) → Type 0
-AddsName s cs old new = (rest : List Chunk) → AddsText old new rest (name_on s cs rest)
-
 -- a number was written, where 64 bits hold it
 abbrev pub AddsNumber : Option Number → (old new : List ℕ) → Type 0
 AddsNumber n old new =
@@ -40,20 +38,26 @@ abbrev pub AddsWidth : Signedness → Option ℕ → (old new : List ℕ) → Ty
 AddsWidth sign w old new =
     (bits : ℕ) → IsWidth w bits → bits < 2 ^ 32 → new ≡ old ++ width_text sign bits
 
+-- what stands before a leaf: `@` before the name of a symbol
+abbrev pub sign_of : Step → List ℕ
+sign_of symbol_name = codes "@"
+sign_of _ = []
+
+-- a leaf was written, at this step of a format
+abbrev pub AddsLeaf : Step → LeafValue → (old new : List ℕ) → Type 0
+AddsLeaf s l old new = (x : Leaf) (rest : List Chunk) → IsLeaf l x → IsInRange x → AddsText old new rest (leaf_on s (leaf_text x) rest)
+
 abbrev mutual
-  -- Numbers and widths are those that can be read, and at most so many lists stand in one another. What a type or an attribute
+  -- Leaves are those that can be read, and at most so many lists stand in one another. What a type or an attribute
   -- says isn't looked at.
   pub IsReadable : ℕ → ValueTree → Type 0
-  IsReadable d (node (type_of_kind n) ts) = Unit {0}
-  IsReadable d (node (attribute_of_kind n) ts) = Unit {0}
+  IsReadable d (node (value_of_kind sort n) ts) = Unit {0}
   IsReadable d (node list ts) = Deeper d (λ e. AreReadable e ts)
   IsReadable d (node item ts) = AreReadable d ts
   IsReadable d (node (operands n) ts) = Unit {0}
   IsReadable d (node (successor n) ts) = Unit {0}
   IsReadable d (node region ts) = Unit {0}
-  IsReadable d (node (name cs) ts) = Unit {0}
-  IsReadable d (node (number negative magnitude) ts) = magnitude < 2 ^ 64
-  IsReadable d (node (width sign bits) ts) = bits < 2 ^ 32
+  IsReadable d (node (leaf x) ts) = IsInRange x
 
   pub AreReadable : ℕ → Pieces → Type 0
   AreReadable d no_tree = Unit {0}

@@ -5,7 +5,7 @@ ghost use Rattle.ir_print.specs.Formats.{step_of, steps_of};
 ghost use Rattle.text_printing.specs.Added.{AddsType, AddsAttribute, AddsParts, AddsPart, AddsMembers};
 ghost use Rattle.text_printing.specs.Printing.{before_of};
 
-use crate::words::{Before, print_gap, print_literal, print_name, print_number, print_width};
+use crate::words::{Before, print_gap, print_leaf, print_literal};
 use ir_context::Context;
 use ir_names::TypeHandle;
 use ir_print::{Directive, Part};
@@ -128,11 +128,9 @@ pub(crate) fn print_part<D: TextDialect>(
         (step_of directive) part.now (string_bytes out.old) (string_bytes out.new)) }
 {
     match part {
-        Part::Number(number) => print_number(out, *number)?,
-        Part::Width(signedness, width) => print_width(out, *signedness, *width)?,
+        Part::Leaf(leaf) => print_leaf(out, directive, leaf)?,
         Part::Type(ty) => print_type(alloc, ctx, out, *ty, left)?,
         Part::Attribute(attr) => print_attribute(alloc, ctx, out, attr, left)?,
-        Part::Name(name) => print_name(out, directive, name)?,
         Part::List(members) => {
             if let Directive::List(member, separator) = directive {
                 if lists > 0 {

@@ -1,14 +1,13 @@
 //! The words of which texts are made: names, numbers, and what stands between two parts.
 ghost use Rattle.std.specs.Prelude.{◌≡◌, ◌++◌, OnOk};
 ghost use Rattle.std.specs.String.{string_bytes};
-ghost use Rattle.ir_names.specs.Identifier.{text_of};
 ghost use Rattle.ir_print.specs.Formats.{step_of};
 ghost use Rattle.ir_print.specs.Layout.{line, gap_of_word, gap_of_part};
 ghost use Rattle.text_dialect.specs.Printed.{value_name};
-ghost use Rattle.text_printing.specs.Printing.{before_of, AddsName, AddsNumber, AddsWidth};
+ghost use Rattle.text_printing.specs.Printing.{before_of, sign_of, AddsLeaf, AddsNumber, AddsWidth};
 
-use ir_names::{Identifier, Signedness};
-use ir_print::{Directive, Number};
+use ir_names::Signedness;
+use ir_print::{Directive, LeafValue, Number};
 use ir_program::Value;
 use itoa::{Buffer, Integer};
 use std::alloc::AllocError;
@@ -52,7 +51,7 @@ pub(crate) fn print_value(out: &mut String, value: Value) -> Result<(), AllocErr
 }
 
 /// A number, which 64 bits hold.
-pub(crate) fn print_number(out: &mut String, number: Option<Number>) -> Result<(), AllocError>
+fn print_number(out: &mut String, number: Option<Number>) -> Result<(), AllocError>
     ensures { OnOk result (AddsNumber number (string_bytes out.old) (string_bytes out.new)) }
 {
     let Some(number) = number else {
@@ -65,7 +64,7 @@ pub(crate) fn print_number(out: &mut String, number: Option<Number>) -> Result<(
 }
 
 /// The width of an integer: `i`, `si` or `ui`, and the number of bits.
-pub(crate) fn print_width(
+fn print_width(
     out: &mut String,
     signedness: Signedness,
     width: Option<u32>,
@@ -108,18 +107,31 @@ pub(crate) fn print_gap(out: &mut String, before: Before) -> Result<(), AllocErr
     Ok(())
 }
 
-/// A name, with `@` before that of a symbol.
-pub(crate) fn print_name(
-    out: &mut String,
-    directive: Directive,
-    name: &Identifier,
-) -> Result<(), AllocError>
-    ensures { OnOk result (AddsName (step_of directive) (text_of name.now) (string_bytes out.old)
-        (string_bytes out.new)) }
+/// `@` before the name of a symbol.
+fn print_sign(out: &mut String, directive: Directive) -> Result<(), AllocError>
+    ensures { OnOk result (string_bytes out.new ≡ string_bytes out.old ++ sign_of (step_of directive)) }
 {
     if let Directive::SymbolHeader = directive {
         out.push_str("@")?;
     }
-    out.push_str(name.as_str())?;
     Ok(())
+}
+
+/// A leaf, with `@` before the name of a symbol.
+pub(crate) fn print_leaf(
+    out: &mut String,
+    directive: Directive,
+    leaf: &LeafValue,
+) -> Result<(), AllocError>
+    ensures { OnOk result (AddsLeaf (step_of directive) leaf.now (string_bytes out.old) (string_bytes out.new)) }
+{
+    print_sign(out, directive)?;
+    match leaf {
+        LeafValue::Name(name) => {
+            out.push_str(name.as_str())?;
+            Ok(())
+        }
+        LeafValue::Number(number) => print_number(out, *number),
+        LeafValue::Width(signedness, width) => print_width(out, *signedness, *width),
+    }
 }

@@ -61,6 +61,9 @@ pub fn top_level_parse<D: ReadDialect>(
     ensures erased { KeepsErased ctx.old.program ctx.new.program }
     ensures payloads { KeepsPayloads ctx.old.program ctx.new.program }
 {
+    // So that no types or names can be chosen that its tables are slow to tell apart.
+    let key = chars.key_after(ctx.hash_key());
+    ctx.key_types_by(alloc, key)?;
     let ReadText {
         starts,
         names,

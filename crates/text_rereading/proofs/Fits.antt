@@ -5,7 +5,7 @@ use Rattle.ir_print.specs.Formats as step
 use Rattle.ir_print.specs.Formats.{Formats}
 use Rattle.ir_print.specs.Pieces.{ValueTree, Values, operation, a_region, block, Entity, entity, Entities, no_entity, an_entity}
 use Rattle.ir_print.specs.Shapes.{parts_in, FitArguments, SaysTypes, SaysAttributes, SaysOperations}
-use Rattle.ir_print.specs.Shown.{said_type, leaf, Saying, Pairs}
+use Rattle.ir_print.specs.Shown.{said_type, alone, Saying, Pairs}
 use Rattle.ir_program.specs.Program.{TypedValue}
 use Rattle.ir_program.specs.declared.handles.Ptr.{Ptr}
 use Rattle.ir_program.specs.declared.handles.Operation.{Operation}
@@ -14,6 +14,7 @@ use Rattle.ir_program.specs.declared.handles.BasicBlock.{BasicBlock}
 use Rattle.ir_rereading.proofs.SaidFits.{shown_fits, all_fit}
 use Rattle.ir_rereading.proofs.trees.TreeAlike.{pairs_length}
 use Rattle.text_dialect.specs.Seen.{SeenBlock, Seen, types_of}
+use Rattle.ir_print.specs.declared.format.ValueSort.TheVariants as sorts
 use Rattle.text_dialect.specs.Standing.{Naming, HasDefinition, HasTree, HasRegionTree, HasBlockTree, HaveRegionTrees, HaveBlockTrees, HaveTrees}
 
 module _ {K A T N : Type 0} (says : Saying K A T) (f : Formats) (v : Values) (say_types : SaysTypes says f v)
@@ -25,8 +26,8 @@ module _ {K A T N : Type 0} (says : Saying K A T) (f : Formats) (v : Values) (sa
   arguments_fit [] (x ∷ xs) h = absurd h
   arguments_fit (d ∷ ds) [] h = absurd h
   arguments_fit (d ∷ ds) (x ∷ xs) h = (
-    shown_fits says f v s.types say_types say_attributes x.1 step.a_type
-        (leaf (said_type d.ty)) refl h.0.1,
+    shown_fits says f v s.types say_types say_attributes x.1 (step.a_value sorts.«Type»)
+        (alone (said_type d.ty)) refl h.0.1,
     arguments_fit ds xs h.1,
   )
 

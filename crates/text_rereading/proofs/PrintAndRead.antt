@@ -41,7 +41,6 @@ stood_closed l can says types attributes operations Named s p cs tree said stand
         scoped = known.scoped;
         edges = known.edges;
         shallow = known.shallow;
-        labelled = known.labelled;
         bare = known.bare;
       },
       known.numbered,
@@ -53,12 +52,12 @@ pub stood_printed : {K A T : Type 0} (l : Language) (says : Saying K A T) (s : S
     → AreSmallInside s p → IsClosedTree l tree → IsPrintedAs l says s p tree
 stood_printed l says s p numbering tree places stands small closed =
     let named = named_tree says HasOwnLabel s numbering p small tree p itself closed.edges stands in
-    let labels = labelled_tree says s places p small named.0 p itself named.1 in
+    let labels = labelled_tree says (Named numbering) s places p small tree named.0 p itself stands named.1 in
     let name = name_at numbering.values in
     let label = block_name_at s numbering.blocks in
     let same : unlabelled named.0 ≡ unlabelled (renamed name label tree) = named.2 in
     let there =
-    closed_renamed name label l tree named.0 closed same labels.1
+    closed_renamed name label l tree named.0 closed same
     (printed_bare name label named.0 tree same closed.bare) in
     record {
       printed = named.0;

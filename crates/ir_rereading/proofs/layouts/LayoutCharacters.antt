@@ -2,13 +2,16 @@
 use Rattle.std.proofs.Common.{◌≡◌, ℕ, zero, suc, ◌+◌, List, [], ◌∷◌, ◌++◌, map, take, drop, Option, Some, None, slice_get, refl, sym, ap, ◌∙◌, codes}
 use Rattle.ir_names.specs.Tree.{node, no_tree, a_tree}
 use Rattle.ir_print.specs.Formats as step
-use Rattle.ir_print.specs.Formats.{Formats, Kind, Step, Steps, no_steps}
+use Rattle.ir_print.specs.Formats.{Formats, Kind, Step, Steps, no_steps, kinds_of}
 use Rattle.ir_print.specs.Layout as layout
-use Rattle.ir_print.specs.Layout.{Chunk, Before, an_id, a_word, a_part, gap_of_word, gap_of_part, line, word_of, member_of, spell, width_text, number_text, Printer}
-use Rattle.ir_print.specs.Pieces.{type_of_kind, attribute_of_kind, list, item, operands, successor, region, name, number, width, ValueTree, Pieces, EntityHead, operation, a_region, block, Entity, entity, Entities, no_entity, an_entity}
+use Rattle.ir_print.specs.Layout.{Chunk, Before, an_id, a_word, a_part, gap_of_word, gap_of_part, line, word_of, member_of, spell, leaf_text, Printer}
+use Rattle.ir_print.specs.Pieces.{value_of_kind, list, item, operands, successor, region, leaf, ValueTree, Pieces, EntityHead, operation, a_region, block, Entity, entity, Entities, no_entity, an_entity}
+use Rattle.ir_print.specs.Shapes.{sort_of}
+use Rattle.ir_print.specs.declared.format.LeafSort.{LeafSort}
 use Rattle.ir_grammar.specs.declared.grammar.Action.{Action}
 use Rattle.ir_grammar.specs.declared.grammar.Action.TheVariants as act
-use Rattle.ir_rereading.proofs.layouts.Marks.{Mark, white, token, word, did, chunks, characters, Marker, part_on, step_on, format_on, kind_on, name_on, separator_of, some_on, more_members_on, members_on, piece_on, parts_on, more_names_on, names_on, results_on, operands_on, first_region_on, edge_on, all_parts_on, operation_head_on, argument_on, more_arguments_on, arguments_on, block_head_on, operation_on, regions_on, region_on, blocks_on, block_on, operations_on, more_operations_on, marks}
+use Rattle.ir_print.specs.declared.format.ValueSort.TheVariants as sorts
+use Rattle.ir_rereading.proofs.layouts.Marks.{Mark, white, token, word, did, chunks, characters, Marker, part_on, step_on, format_on, kind_on, leaf_on, separator_of, some_on, more_members_on, members_on, piece_on, parts_on, more_names_on, names_on, results_on, operands_on, first_region_on, edge_on, all_parts_on, operation_head_on, argument_on, more_arguments_on, arguments_on, block_head_on, operation_on, regions_on, region_on, blocks_on, block_on, operations_on, more_operations_on, marks}
 
 -- the characters of marks are those of their chunks
 spell_chunks : (ms : List Mark) → spell (chunks ms) ≡ characters ms
@@ -68,9 +71,9 @@ kind_alike : (found : Option Kind) (begins ends : Action) (qs : List (Option Mar
 kind_alike None begins ends qs ps rest h = refl
 kind_alike (Some k) begins ends qs ps rest h = ap (λ z. layout.token k.id ∷ z) (format_alike an_id k.format qs ps (did ends ∷ rest) h)
 
-name_alike : (s : Step) (cs : List ℕ) (rest : List Mark) → chunks (name_on s cs rest) ≡ layout.name_on s cs (chunks rest)
-name_alike step.symbol_name cs rest = refl
-name_alike _ cs rest = refl
+leaf_alike : (s : Step) (sort : LeafSort) (cs : List ℕ) (rest : List Mark) → chunks (leaf_on s sort cs rest) ≡ layout.leaf_on s cs (chunks rest)
+leaf_alike step.symbol_name sort cs rest = refl
+leaf_alike _ sort cs rest = refl
 
 separator_alike : (s : Step) (ms : List Mark) → chunks (separator_of s ∷ ms) ≡ layout.separator_of s ∷ chunks ms
 separator_alike (step.list_of member printed text) ms = refl
@@ -139,16 +142,13 @@ edge_alike (l ∷ ls) us = λ s ms. ap (λ z. layout.token (codes "^") ∷ layou
 module _ (f : Formats) where
   mutual
     piece_alike : (t : ValueTree) (s : Step) (rest : List Mark) → chunks (piece_on f t s rest) ≡ layout.piece_on f t s (chunks rest)
-    piece_alike (node (type_of_kind n) ts) s rest = kind_alike (slice_get f.types n) (act.BeginType n) act.EndType _ _ rest (parts_alike ts)
-    piece_alike (node (attribute_of_kind n) ts) s rest = kind_alike (slice_get f.attributes n) (act.BeginAttribute n) act.EndAttribute _ _ rest (parts_alike ts)
+    piece_alike (node (value_of_kind sort n) ts) s rest = kind_alike (slice_get (kinds_of f sort) n) (act.Begin sort n) (act.End sort) _ _ rest (parts_alike ts)
     piece_alike (node list ts) s rest = members_alike s (parts_on f ts) (layout.parts_on f ts) (did act.EndList ∷ rest) (parts_alike ts)
     piece_alike (node item ts) s rest = format_alike a_word (member_of s) (parts_on f ts) (layout.parts_on f ts) (did act.EndItem ∷ rest) (parts_alike ts)
     piece_alike (node (operands n) ts) s rest = refl
     piece_alike (node (successor n) ts) s rest = refl
     piece_alike (node region ts) s rest = refl
-    piece_alike (node (name cs) ts) s rest = name_alike s cs rest
-    piece_alike (node (number negative magnitude) ts) s rest = refl
-    piece_alike (node (width sign bits) ts) s rest = refl
+    piece_alike (node (leaf x) ts) s rest = leaf_alike s (sort_of x) (leaf_text x) rest
 
     parts_alike : (ts : Pieces) → AreAlike (parts_on f ts) (layout.parts_on f ts)
     parts_alike no_tree = tt
@@ -170,7 +170,7 @@ module _ (f : Formats) where
   operation_head_alike (block named label arguments) rs qs rest h = refl
 
   argument_alike : (x : List ℕ × ValueTree) (rest : List Mark) → chunks (argument_on f x rest) ≡ layout.argument_on f x (chunks rest)
-  argument_alike x rest = ap (λ z. layout.token x.0 ∷ layout.word (codes ": ") (codes ":") ∷ z) (piece_alike x.1 step.a_type rest)
+  argument_alike x rest = ap (λ z. layout.token x.0 ∷ layout.word (codes ": ") (codes ":") ∷ z) (piece_alike x.1 (step.a_value sorts.«Type») rest)
 
   more_arguments_alike : (xs : List (List ℕ × ValueTree)) (rest : List Mark) → chunks (more_arguments_on f xs rest) ≡ layout.more_arguments_on f xs (chunks rest)
   more_arguments_alike [] rest = refl

@@ -24,6 +24,7 @@ use Rattle.ir_rereading.proofs.layouts.PlainWords.{Tested, tested}
 use Rattle.ir_rereading.proofs.layouts.PlainKinds.{name_accepted}
 use Rattle.ir_rereading.proofs.layouts.FormatRules.{operation_rule, region_rule, block_rule, argument_rule}
 use Rattle.ir_rereading.proofs.layouts.MarkSteps.{DerivesMarks, shift, blank, acted, expand, Placed, IsReadAt, AreReadAt, took, took_word, kind_reads}
+use Rattle.ir_print.specs.declared.format.ValueSort.TheVariants as sorts
 use Rattle.ir_rereading.proofs.layouts.ValuesDerive.{AllPass, Outer, outer, IsInner, HasSeveral, several_none, several_first, several_last, several_more, piece_read}
 
 -- ---- names
@@ -142,14 +143,14 @@ module _ (g : Grammar) (f : Formats) (known : IsGrammarOf f g) (t : Tested f) (v
 
   -- ---- arguments
 
-  argument_read : (x : List ℕ × ValueTree) (ss : List Symbol) (ms : List Mark) → Fits f v step.a_type x.1 → is_identifier x.0 ≡ true → IsInner x.1 → DerivesMarks g f ss ms → DerivesMarks g f (Part rules.argument ∷ ss) (argument_on f x ms)
+  argument_read : (x : List ℕ × ValueTree) (ss : List Symbol) (ms : List Mark) → Fits f v (step.a_value sorts.«Type») x.1 → is_identifier x.0 ≡ true → IsInner x.1 → DerivesMarks g f ss ms → DerivesMarks g f (Part rules.argument ∷ ss) (argument_on f x ms)
   argument_read x ss ms h spelt inner d =
       expand known rules.argument (Sign 0 ∷ Act act.Argument ∷ sign (words_of f) (codes ":") ∷ Part rules.type_part ∷ []) (argument_rule f _ 0 refl)
-      (named x.0 _ _ spelt (acted (framed_word (codes ":") _ (codes ": ") _ 8 refl ((piece_read g f known t v o x.1 step.a_type h refl inner).reads 0 ss ms
+      (named x.0 _ _ spelt (acted (framed_word (codes ":") _ (codes ": ") _ 8 refl ((piece_read g f known t v o x.1 (step.a_value sorts.«Type») h refl inner).reads 0 ss ms
       (record { rules = record { among = λ r i. absurd i }; words = record { among = λ w i. absurd i } }) d))))
 
   -- a type is no operand, no edge and no region
-  type_inner : (p : ValueTree) → Fits f v step.a_type p → IsInner p
+  type_inner : (p : ValueTree) → Fits f v (step.a_value sorts.«Type») p → IsInner p
   type_inner (node (operands n) ts) h = absurd h
   type_inner (node (successor n) ts) h = cc
   type_inner (node region ts) h = cc

@@ -3,7 +3,7 @@ use Rattle.std.proofs.Common.{◌≡◌, ℕ, ◌+◌, List, [], ◌∷◌, ◌+
 use Rattle.std.proofs.lemmas.List.{append-nil, append_assoc, length-map}
 use Rattle.ir_names.specs.Tree.{Trees, node, no_tree, a_tree, join}
 use Rattle.ir_print.specs.Layout.{AreFlat, AreFlatArguments, AreShallow}
-use Rattle.ir_print.specs.Pieces.{type_of_kind, region, ValueTree, Pieces, Values, operation, a_region, block, Entity, entity, Entities, no_entity, an_entity}
+use Rattle.ir_print.specs.Pieces.{value_of_kind, region, ValueTree, Pieces, Values, operation, a_region, block, Entity, entity, Entities, no_entity, an_entity}
 use Rattle.ir_grammar.specs.declared.grammar.Action.TheVariants as act
 use Rattle.ir_forest.specs.Forest.{ActionSpan}
 use Rattle.ir_forest.specs.Meaning.{pieces_in, operands_in, successors_in, arguments_in, typed, operations_in, regions_in, blocks_in, all_renamed}
@@ -11,6 +11,7 @@ use Rattle.ir_forest.proofs.BuiltTrees.{join_assoc}
 use Rattle.ir_rereading.proofs.layouts.LayoutParts.{joined, joined_none, AreLow, AreFine, Reads, then, worded, nothing, IsNode, IsLeaf, Says}
 use Rattle.ir_rereading.proofs.layouts.LayoutValues.{join_none, deeper, say_all}
 use Rattle.ir_rereading.proofs.layouts.LayoutOperations.{leaves, AreNames, names_read}
+use Rattle.ir_print.specs.declared.format.ValueSort.TheVariants as sorts
 use Rattle.ir_rereading.proofs.layouts.Marks.{word, names_on, results_on}
 
 module _ (v : Values) (text : ℕ → List ℕ) where
@@ -39,17 +40,17 @@ module _ (v : Values) (text : ℕ → List ℕ) where
   }
 
   -- an argument, and its type
-  pub argument_says : (x : List ℕ) (n i j : ℕ) (ts : Pieces) (ys zs : Trees ActionSpan) → text i ≡ x → v.refused_type n ts ≡ None → IsLeaf act.Argument i ys → IsNode (act.BeginType n) j (Says v text ts [] [] no_entity) zs
-      → SaysArguments ((x, node (type_of_kind n) ts) ∷ []) (join ys zs)
+  pub argument_says : (x : List ℕ) (n i j : ℕ) (ts : Pieces) (ys zs : Trees ActionSpan) → text i ≡ x → v.refused_type n ts ≡ None → IsLeaf act.Argument i ys → IsNode (act.Begin sorts.«Type» n) j (Says v text ts [] [] no_entity) zs
+      → SaysArguments ((x, node (value_of_kind sorts.«Type» n) ts) ∷ []) (join ys zs)
   argument_says x n i j ts ys zs named fit l q =
-      let t = node (type_of_kind n) ts in
+      let t = node (value_of_kind sorts.«Type» n) ts in
       let a = say_all v text ts [] [] no_entity q.1 q.3 in
       let s : ActionSpan = record { action = act.Argument; first = i; last = i } in
-      let tree : Trees ActionSpan = a_tree (node s no_tree) (a_tree (node (record { action = act.BeginType n; first = j; last = q.0 }) q.1) no_tree) in
+      let tree : Trees ActionSpan = a_tree (node s no_tree) (a_tree (node (record { action = act.Begin sorts.«Type» n; first = j; last = q.0 }) q.1) no_tree) in
       let same : join ys zs ≡ tree = ap (λ z. join z zs) l ∙ ap (a_tree (node s no_tree)) q.2 in
       subst (SaysArguments ((x, t) ∷ [])) (sym same) (record {
         fine = λ rest h. ((refl, refl, refl), refl, tt, tt, (tt, ap (v.refused_type n) a.pieces ∙ fit, tt, a.fine, h));
-        arguments = λ rest ys h k. ap (λ z. (text i, node (type_of_kind n) z) ∷ spelt (arguments_in v text i rest)) a.pieces
+        arguments = λ rest ys h k. ap (λ z. (text i, node (value_of_kind sorts.«Type» n) z) ∷ spelt (arguments_in v text i rest)) a.pieces
             ∙ (ap (λ z. (z, t) ∷ spelt (arguments_in v text i rest)) named ∙ ap (λ z. (x, t) ∷ z) (h i));
         operations = λ rest. refl;
         low = λ d e s f rest h. let r = deeper (λ e. AreFlat e ts) (λ d. AreLow d q.1) d e s f.0 (λ d e s f. a.low d e s f tt) in (λ w. cc, tt, (λ w. r.0, r.1, h));

@@ -227,8 +227,7 @@ ends_depth : (a x : Action) (d : ℕ) → end_of a ≡ Some x → (opens x ≡ f
 ends_depth (act.Operation kind) x d h = let e : act.EndOperation ≡ x = cc in subst (λ z. (opens z ≡ false) × (depth_at d z ≡ d)) e (refl, refl)
 ends_depth act.BeginRegion x d h = let e : act.EndRegion ≡ x = cc in subst (λ z. (opens z ≡ false) × (depth_at (d + 1) z ≡ d)) e (refl, omega arith)
 ends_depth act.Label x d h = let e : act.EndBlock ≡ x = cc in subst (λ z. (opens z ≡ false) × (depth_at d z ≡ d)) e (refl, refl)
-ends_depth (act.BeginType kind) x d h = let e : act.EndType ≡ x = cc in subst (λ z. (opens z ≡ false) × (depth_at (d + 1) z ≡ d)) e (refl, omega arith)
-ends_depth (act.BeginAttribute kind) x d h = let e : act.EndAttribute ≡ x = cc in subst (λ z. (opens z ≡ false) × (depth_at (d + 1) z ≡ d)) e (refl, omega arith)
+ends_depth (act.Begin sort kind) x d h = let e : act.End sort ≡ x = cc in subst (λ z. (opens z ≡ false) × (depth_at (d + 1) z ≡ d)) e (refl, omega arith)
 ends_depth act.BeginOperands x d h = let e : act.EndOperands ≡ x = cc in subst (λ z. (opens z ≡ false) × (depth_at d z ≡ d)) e (refl, refl)
 ends_depth act.BeginSuccessor x d h = let e : act.EndSuccessor ≡ x = cc in subst (λ z. (opens z ≡ false) × (depth_at d z ≡ d)) e (refl, refl)
 ends_depth act.BeginList x d h = let e : act.EndList ≡ x = cc in subst (λ z. (opens z ≡ false) × (depth_at d z ≡ d)) e (refl, refl)
@@ -239,9 +238,7 @@ alone_depth : (a : Action) (d : ℕ) → end_of a ≡ None → is_end a ≡ fals
 alone_depth act.Result d e f = refl
 alone_depth act.Argument d e f = refl
 alone_depth act.Header d e f = refl
-alone_depth act.Name d e f = refl
-alone_depth act.Number d e f = refl
-alone_depth act.Width d e f = refl
+alone_depth (act.Leaf sort) d e f = refl
 alone_depth act.Operand d e f = refl
 alone_depth _ d e f = cc
 

@@ -1,13 +1,14 @@
--- The numbers that decimal digits write are read again.
+-- The numbers that decimal digits write are read again, and so are all leaves.
 use Rattle.std.proofs.Common.{◌≡◌, ℕ, ◌+◌, ◌-◌, ◌*◌, ◌%◌, ◌<◌, ◌≤◌, ◌^◌, ◌==◌, List, [], ◌∷◌, ◌++◌, Bool, true, false, if◌then◌else◌, arith, refl, ap, ◌∙◌}
 use Rattle.std.proofs.lemmas.Fmt.{decimal_by_steps}
 use Rattle.std.proofs.lemmas.Bool.{eqb-true}
 use Rattle.std.specs.Fmt.{decimal}
 use Rattle.ir_names.specs.declared.kinds.Signedness.{Signedness}
 use Rattle.ir_names.specs.declared.kinds.Signedness.TheVariants.{Signless, Signed, Unsigned}
-use Rattle.ir_print.specs.Layout.{width_text, number_text}
-use Rattle.ir_print.specs.Pieces.{number, width}
-use Rattle.ir_forest.specs.Meaning.{digits_from, digits, number_in, width_in}
+use Rattle.ir_print.specs.Layout.{width_text, number_text, leaf_text}
+use Rattle.ir_print.specs.Pieces.{Leaf, name, number, width}
+use Rattle.ir_print.specs.Shapes.{sort_of, IsInRange}
+use Rattle.ir_forest.specs.Meaning.{digits_from, digits, number_in, width_in, leaf_in}
 
 digits_append : (xs ys : List ℕ) (v : ℕ) → digits_from v (xs ++ ys) ≡ digits_from (digits_from v xs) ys
 digits_append [] ys v = refl
@@ -42,11 +43,17 @@ plain_number (c ∷ cs) n h =
     go true e = let same = eqb-true c 45 e in let low : 48 ≤ c = h.1 in absurd (omega (arith, same, low))
     go false e = e
 
-pub number_again : (negative : Bool) (n : ℕ) → n < 2 ^ 64 → number_in (number_text negative n) ≡ number negative n
+number_again : (negative : Bool) (n : ℕ) → n < 2 ^ 64 → number_in (number_text negative n) ≡ number negative n
 number_again true n h = ap (number true) (decimal_is n h).0
 number_again false n h = plain_number (decimal n) n (decimal_is n h)
 
-pub width_again : (sign : Signedness) (n : ℕ) → n < 2 ^ 32 → width_in (width_text sign n) ≡ width sign n
+width_again : (sign : Signedness) (n : ℕ) → n < 2 ^ 32 → width_in (width_text sign n) ≡ width sign n
 width_again Signless n h = ap (width Signless) (decimal_is n (omega (arith, h))).0
 width_again Signed n h = ap (width Signed) (decimal_is n (omega (arith, h))).0
 width_again Unsigned n h = ap (width Unsigned) (decimal_is n (omega (arith, h))).0
+
+-- what a leaf is spelled as says the leaf
+pub leaf_again : (x : Leaf) → IsInRange x → leaf_in (sort_of x) (leaf_text x) ≡ x
+leaf_again (name cs) h = refl
+leaf_again (number negative magnitude) h = number_again negative magnitude h
+leaf_again (width sign bits) h = width_again sign bits h

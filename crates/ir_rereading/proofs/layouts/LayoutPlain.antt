@@ -1,28 +1,24 @@
 -- Which trees are printed whole.
-use Rattle.std.proofs.Common.{◌≡◌, ℕ, List, [], ◌∷◌, ◌++◌, ◌==◌, Bool, true, false, if◌then◌else◌, map, refl, ap, sym, subst, ◌∙◌}
+use Rattle.std.proofs.Common.{◌≡◌, ℕ, List, [], ◌∷◌, ◌++◌, true, false, map, refl, ap, sym, subst, ◌∙◌}
 use Rattle.ir_names.specs.Tree.{Trees, node, no_tree, a_tree, count}
-use Rattle.ir_names.specs.declared.kinds.Signedness.TheVariants.{Signless, Signed, Unsigned}
 use Rattle.ir_print.specs.Formats as step
 use Rattle.ir_print.specs.Formats.{Formats}
-use Rattle.ir_print.specs.Pieces.{type_of_kind, attribute_of_kind, list, item, operands, successor, region, name, number, width, ValueTree, Pieces, Values, operation, a_region, block, Entity, entity, Entities, no_entity, an_entity}
-use Rattle.ir_print.specs.Shapes.{parts_in, IsListOf, TakesName, Fits, FitAll, FitMembers, FitsMember, FitArguments}
+use Rattle.ir_print.specs.Pieces.{value_of_kind, list, item, operands, successor, region, leaf, ValueTree, Pieces, Values, canonical_value, operation, a_region, block, Entity, entity, Entities, no_entity, an_entity}
+use Rattle.ir_print.specs.Shapes.{parts_in, IsListOf, Fits, FitAll, FitMembers, FitsMember, FitArguments}
 use Rattle.ir_grammar.specs.declared.grammar.Action.{Action}
 use Rattle.ir_grammar.specs.declared.grammar.Action.TheVariants as act
 use Rattle.ir_forest.specs.Bare.{IsBare, AreBare, AreBareArguments, IsBareTree, AreBareTrees, KeepsBare}
 use Rattle.ir_forest.specs.Closed.{FitsTree, FitTrees, unlabelled, all_unlabelled}
 use Rattle.ir_forest.specs.Forest.{ActionSpan}
-use Rattle.ir_forest.specs.Meaning.{digits, number_in, tail, width_in, head_of, with_piece, pieces_in, by_operation, by_region, by_label, by_argument, arguments_in, operations_in, regions_in, blocks_in, renamed, all_renamed}
+use Rattle.ir_forest.specs.Meaning.{head_of, with_piece, pieces_in, by_operation, by_region, by_label, by_argument, arguments_in, operations_in, regions_in, blocks_in, renamed, all_renamed}
 use Rattle.ir_rereading.specs.Outer.{is_value_step, is_plain_step, has_outer_operands}
 use Rattle.ir_rereading.proofs.layouts.LayoutValues.{IsPlain, ArePlain}
 use Rattle.ir_rereading.proofs.layouts.LayoutOperations.{IsPlainPart, ArePlainParts, ArePlainArguments, IsPlainTree, ArePlainTrees}
+use Rattle.ir_print.specs.declared.format.ValueSort.{ValueSort}
+use Rattle.ir_print.specs.declared.format.ValueSort.TheVariants as sorts
 use Rattle.ir_rereading.proofs.layouts.ValuesDerive.{AllPass, values_in, values_alone, Outer, outer}
 
 -- ---- from formats
-
-named_value : (s : step.Step) → TakesName s → is_value_step s ≡ true
-named_value step.a_name h = refl
-named_value step.symbol_name h = refl
-named_value _ h = absurd h
 
 module _ (f : Formats) (v : Values) (o : Outer f) where
   -- a list, given its members
@@ -33,16 +29,13 @@ module _ (f : Formats) (v : Values) (o : Outer f) where
 
   mutual
     value_plain : (t : ValueTree) (s : step.Step) → is_value_step s ≡ true → Fits f v s t → IsBare t → IsPlain t
-    value_plain (node (type_of_kind n) ts) s p fit bare = values_plain ts (parts_in fit.1.format) (o.types n fit.1 fit.2) fit.3 bare
-    value_plain (node (attribute_of_kind n) ts) s p fit bare = values_plain ts (parts_in fit.1.format) (o.attributes n fit.1 fit.2) fit.3 bare
+    value_plain (node (value_of_kind sort n) ts) s p fit bare = values_plain ts (parts_in fit.1.format) (o.values sort n fit.1 fit.2) fit.3 bare
     value_plain (node list ts) s p fit bare = list_plain s ts p fit bare (λ ss q fits b. members_plain ts ss q fits b)
     value_plain (node item ts) s p fit bare = absurd fit
     value_plain (node (operands n) ts) s p fit bare = absurd (values_alone s n fit p)
     value_plain (node (successor n) ts) s p fit bare = let wrong : false ≡ true = ap is_value_step (sym fit) ∙ p in cc
     value_plain (node region ts) s p fit bare = let wrong : false ≡ true = ap is_value_step (sym fit) ∙ p in cc
-    value_plain (node (name cs) ts) s p fit bare = bare
-    value_plain (node (number negative magnitude) ts) s p fit bare = bare
-    value_plain (node (width sign bits) ts) s p fit bare = bare
+    value_plain (node (leaf x) ts) s p fit bare = bare
 
     values_plain : (ts : Pieces) (ss : List step.Step) → AllPass is_value_step ss → FitAll f v ss ts → AreBare ts → ArePlain ts
     values_plain no_tree ss p fit bare = tt
@@ -62,16 +55,13 @@ module _ (f : Formats) (v : Values) (o : Outer f) where
   list_part _ ts p fit bare = absurd fit
 
   part_plain : (t : ValueTree) (s : step.Step) → is_plain_step s ≡ true → Fits f v s t → IsBare t → IsPlainPart t
-  part_plain (node (type_of_kind n) ts) s p fit bare = value_plain (node (type_of_kind n) ts) s (ap is_value_step fit.0) fit bare
-  part_plain (node (attribute_of_kind n) ts) s p fit bare = value_plain (node (attribute_of_kind n) ts) s (ap is_value_step fit.0) fit bare
+  part_plain (node (value_of_kind sort n) ts) s p fit bare = value_plain (node (value_of_kind sort n) ts) s (ap is_value_step fit.0) fit bare
   part_plain (node list ts) s p fit bare = list_part s ts p fit bare
   part_plain (node item ts) s p fit bare = absurd fit
   part_plain (node (operands n) ts) s p fit bare = bare
   part_plain (node (successor n) ts) s p fit bare = bare
   part_plain (node region ts) s p fit bare = bare
-  part_plain (node (name cs) ts) s p fit bare = bare
-  part_plain (node (number negative magnitude) ts) s p fit bare = bare
-  part_plain (node (width sign bits) ts) s p fit bare = bare
+  part_plain (node (leaf x) ts) s p fit bare = bare
 
   parts_plain : (ts : Pieces) (ss : List step.Step) → AllPass is_plain_step ss → FitAll f v ss ts → AreBare ts → ArePlainParts ts
   parts_plain no_tree ss p fit bare = tt
@@ -81,7 +71,7 @@ module _ (f : Formats) (v : Values) (o : Outer f) where
   module _ {N : Type 0} where
     arguments_plain : (xs : List (N × ValueTree)) → FitArguments f v xs → AreBareArguments xs → ArePlainArguments xs
     arguments_plain [] fit bare = tt
-    arguments_plain (x ∷ xs) fit bare = (value_plain x.1 step.a_type refl fit.0 bare.0, arguments_plain xs fit.1 bare.1)
+    arguments_plain (x ∷ xs) fit bare = (value_plain x.1 (step.a_value sorts.«Type») refl fit.0 bare.0, arguments_plain xs fit.1 bare.1)
 
     mutual
       tree_plain : (t : Entity N) → FitsTree f v t → IsBareTree t → IsPlainTree t
@@ -98,32 +88,19 @@ plain_tree f v t h fit bare = tree_plain f v (outer f h) t fit bare
 
 -- ---- what is read is bare
 
-by_test : {X : Type 0} (P : X → Type 0) (b : Bool) (x y : X) → P x → P y → P (if b then x else y)
-by_test P true x y h k = h
-by_test P false x y h k = k
-
-number_bare : (cs : List ℕ) → IsBare (node (number_in cs) no_tree)
-number_bare [] = refl
-number_bare (c ∷ cs) = by_test (λ p. IsBare (node p no_tree)) (c == 45) (number true (digits cs)) (number false (digits (c ∷ cs))) refl refl
-
-width_bare : (cs : List ℕ) → IsBare (node (width_in cs) no_tree)
-width_bare [] = refl
-width_bare (c ∷ cs) =
-    by_test (λ p. IsBare (node p no_tree)) (c == 115) (width Signed (digits (tail cs))) (if c == 117 then width Unsigned (digits (tail cs)) else width Signless (digits cs)) refl
-    (by_test (λ p. IsBare (node p no_tree)) (c == 117) (width Unsigned (digits (tail cs))) (width Signless (digits cs)) refl refl)
-
 module _ (v : Values) (text : ℕ → List ℕ) (keeps : KeepsBare v) where
+  canonical_bare : (sort : ValueSort) (n : ℕ) (ps : Pieces) → AreBare ps → AreBare (canonical_value v sort n ps)
+  canonical_bare sorts.«Type» n ps h = h
+  canonical_bare sorts.Attribute n ps h = keeps n ps h
+
   piece_bare : (a : Action) (cs : List ℕ) (many : ℕ) (ts rest : Pieces) → AreBare ts → AreBare rest → AreBare (with_piece v a cs many ts rest)
-  piece_bare (act.BeginType kind) cs many ts rest h r = (h, r)
-  piece_bare (act.BeginAttribute kind) cs many ts rest h r = (keeps kind ts h, r)
+  piece_bare (act.Begin sort kind) cs many ts rest h r = (canonical_bare sort kind ts h, r)
   piece_bare act.BeginList cs many ts rest h r = (h, r)
   piece_bare act.BeginItem cs many ts rest h r = (h, r)
   piece_bare act.BeginOperands cs many ts rest h r = (refl, r)
   piece_bare act.BeginSuccessor cs many ts rest h r = (refl, r)
   piece_bare act.BeginRegion cs many ts rest h r = (refl, r)
-  piece_bare act.Name cs many ts rest h r = (refl, r)
-  piece_bare act.Number cs many ts rest h r = (number_bare cs, r)
-  piece_bare act.Width cs many ts rest h r = (width_bare cs, r)
+  piece_bare (act.Leaf sort) cs many ts rest h r = (refl, r)
   piece_bare _ cs many ts rest h r = r
 
   pieces_bare : (ts : Trees ActionSpan) → AreBare (pieces_in v text ts)
@@ -133,14 +110,14 @@ module _ (v : Values) (text : ℕ → List ℕ) (keeps : KeepsBare v) where
   by_argument_bare : (a : Action) (x y z : List (ℕ × ValueTree)) (g : ℕ → List (ℕ × ValueTree)) → AreBareArguments x → ((n : ℕ) → AreBareArguments (g n)) → AreBareArguments y → AreBareArguments z
       → AreBareArguments (by_argument a x g y z)
   by_argument_bare act.Argument x y z g hx hg hy hz = hx
-  by_argument_bare (act.BeginType kind) x y z g hx hg hy hz = hg kind
+  by_argument_bare (act.Begin sorts.«Type» kind) x y z g hx hg hy hz = hg kind
   by_argument_bare act.Header x y z g hx hg hy hz = hy
   by_argument_bare _ x y z g hx hg hy hz = hz
 
   arguments_bare : (ts : Trees ActionSpan) (named : ℕ) → AreBareArguments (arguments_in v text named ts)
   arguments_bare no_tree named = tt
   arguments_bare (a_tree (node s ts) rest) named =
-      by_argument_bare s.action (arguments_in v text s.first rest) [] (arguments_in v text named rest) (λ kind. (named, node (type_of_kind kind) (pieces_in v text ts)) ∷ arguments_in v text named rest)
+      by_argument_bare s.action (arguments_in v text s.first rest) [] (arguments_in v text named rest) (λ kind. (named, node (value_of_kind sorts.«Type» kind) (pieces_in v text ts)) ∷ arguments_in v text named rest)
       (arguments_bare rest s.first) (λ kind. (pieces_bare ts, arguments_bare rest named)) tt (arguments_bare rest named)
 
   by_operation_bare : (a : Action) (x y : Entities ℕ) (g : ℕ → Entities ℕ) → AreBareTrees x → ((n : ℕ) → AreBareTrees (g n)) → AreBareTrees y → AreBareTrees (by_operation a x g y)

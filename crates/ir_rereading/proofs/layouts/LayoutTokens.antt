@@ -6,10 +6,10 @@ use Rattle.std.proofs.lemmas.Str.{IsUtf8-from_ascii, chars-IsAscii}
 use Rattle.ir_names.specs.Tree.{node, no_tree, a_tree}
 use Rattle.ir_names.specs.Text.{is_identifier}
 use Rattle.ir_print.specs.Formats as step
-use Rattle.ir_print.specs.Formats.{Formats, Kind, Step, Steps, no_steps}
-use Rattle.ir_print.specs.Layout.{Before, an_id, a_word, a_part, gap_of_word, gap_of_part, line}
-use Rattle.ir_print.specs.Pieces.{type_of_kind, attribute_of_kind, list, item, operands, successor, region, name, number, width, ValueTree, Pieces, Values, EntityHead, operation, a_region, block, Entity, entity, Entities, no_entity, an_entity}
-use Rattle.ir_print.specs.Shapes.{parts_in, Fits, FitAll, FitMembers, FitsMember, FitArguments}
+use Rattle.ir_print.specs.Formats.{Formats, Kind, Step, Steps, no_steps, kinds_of}
+use Rattle.ir_print.specs.Layout.{Before, an_id, a_word, a_part, gap_of_word, gap_of_part, line, leaf_text}
+use Rattle.ir_print.specs.Pieces.{value_of_kind, list, item, operands, successor, region, Leaf, leaf, name, number, width, ValueTree, Pieces, Values, EntityHead, operation, a_region, block, Entity, entity, Entities, no_entity, an_entity}
+use Rattle.ir_print.specs.Shapes.{parts_in, IsInRange, Fits, FitAll, FitMembers, FitsMember, FitArguments}
 use Rattle.ir_grammar.specs.declared.grammar.Action.{Action}
 use Rattle.ir_grammar.specs.declared.grammar.Action.TheVariants as act
 use Rattle.ir_tokens.specs.declared.tokens.Token.{Token}
@@ -17,10 +17,12 @@ use Rattle.ir_tokens.specs.Tokens.{is_sign, ReadsAs}
 use Rattle.ir_formats.specs.Words.{text_of}
 use Rattle.ir_rereading.specs.Printable.{is_word, less_spaces, is_before_spaces, is_printed, begins_apart, ends_apart, BoundaryBefore, apart, behind, part, may_follow, may_take, is_step_apart, are_steps_apart, is_kind_printable, is_printable}
 use Rattle.ir_forest.specs.Closed.{names_of, FitsHead, FitsTree, FitTrees}
-use Rattle.ir_rereading.proofs.layouts.Marks.{Mark, white, token, word, did, characters, tokens, Marker, part_on, format_on, kind_on, more_members_on, members_on, piece_on, parts_on, type_on, more_names_on, names_on, results_on, operands_on, first_region_on, edge_on, all_parts_on, operation_head_on, argument_on, more_arguments_on, arguments_on, block_head_on, operation_on, regions_on, region_on, blocks_on, block_on, operations_on, more_operations_on, marks, sort_of, AreIdentifiers, IsSpeltHead, IsSpelt, AreSpelt}
+use Rattle.ir_rereading.proofs.layouts.Marks.{Mark, white, token, word, did, characters, tokens, Marker, part_on, format_on, kind_on, more_members_on, members_on, piece_on, parts_on, type_on, more_names_on, names_on, results_on, operands_on, first_region_on, edge_on, all_parts_on, operation_head_on, argument_on, more_arguments_on, arguments_on, block_head_on, operation_on, regions_on, region_on, blocks_on, block_on, operations_on, more_operations_on, marks, kind_of_text, AreIdentifiers, IsSpeltHead, IsSpelt, AreSpelt}
 use Rattle.ir_rereading.proofs.layouts.Lexemes as lexemes
 use Rattle.ir_rereading.proofs.layouts.Lexemes.{clash, ended, Lexes, placed_all, lexes_ascii}
 use Rattle.ir_rereading.proofs.layouts.LexedWords.{Opens, Follows, IsLexeme, lexeme_opens, sign_opens, sign_follows, blank_follows, spaces_open, identifier_is, number_is, width_is, word_is, Behind, word_opens, word_clean}
+use Rattle.ir_print.specs.declared.format.ValueSort.{ValueSort}
+use Rattle.ir_print.specs.declared.format.ValueSort.TheVariants as sorts
 use Rattle.ir_formats.proofs.Booleans.{both_hold}
 
 -- ---- marks
@@ -271,12 +273,16 @@ drop_next (suc n) (r ∷ rs) h = drop_next n rs h.1
 
 -- ---- pieces
 
-module _ (f : Formats) (v : Values) (printable : is_printable f ≡ true) where
-  printable_types : list_all is_kind_printable f.types ≡ true
-  printable_types = (both_hold _ (list_all is_kind_printable f.types) (both_hold _ (list_all is_kind_printable f.attributes) printable).0).1
+-- what a leaf is spelled as is one token
+leaf_is : (x : Leaf) → IsInRange x → IsLexeme (leaf_text x)
+leaf_is (name cs) h = identifier_is cs h
+leaf_is (number negative magnitude) h = number_is negative magnitude h
+leaf_is (width sign bits) h = width_is sign bits h
 
-  printable_attributes : list_all is_kind_printable f.attributes ≡ true
-  printable_attributes = (both_hold _ (list_all is_kind_printable f.attributes) printable).1
+module _ (f : Formats) (v : Values) (printable : is_printable f ≡ true) where
+  printable_values : (sort : ValueSort) → list_all is_kind_printable (kinds_of f sort) ≡ true
+  printable_values sorts.«Type» = (both_hold _ (list_all is_kind_printable f.types) (both_hold _ (list_all is_kind_printable f.attributes) printable).0).1
+  printable_values sorts.Attribute = (both_hold _ (list_all is_kind_printable f.attributes) printable).1
 
   printable_operations : list_all is_kind_printable f.operations ≡ true
   printable_operations = (both_hold _ (list_all is_kind_printable f.operations) (both_hold _ (list_all is_kind_printable f.types) (both_hold _ (list_all is_kind_printable f.attributes) printable).0).0).1
@@ -287,10 +293,8 @@ module _ (f : Formats) (v : Values) (printable : is_printable f ≡ true) where
 
   mutual
     lex_piece : (t : ValueTree) (s : Step) → Fits f v s t → IsMarked s (Some (piece_on f t))
-    lex_piece (node (type_of_kind n) ts) s h a rest k =
-        lex_found _ h.1 (act.BeginType n) act.EndType _ rest h.2 (kind_at f.types n h.1 printable_types h.2) (lex_pieces ts (parts_in h.1.format) h.3) k
-    lex_piece (node (attribute_of_kind n) ts) s h a rest k =
-        lex_found _ h.1 (act.BeginAttribute n) act.EndAttribute _ rest h.2 (kind_at f.attributes n h.1 printable_attributes h.2) (lex_pieces ts (parts_in h.1.format) h.3) k
+    lex_piece (node (value_of_kind sort n) ts) s h a rest k =
+        lex_found _ h.1 (act.Begin sort n) (act.End sort) _ rest h.2 (kind_at (kinds_of f sort) n h.1 (printable_values sort) h.2) (lex_pieces ts (parts_in h.1.format) h.3) k
     lex_piece (node list ts) (step.list_of member printed text) h a rest k =
         acted (lex_list member printed text (parts_on f ts) (did act.EndList ∷ rest) a
         (lex_items ts member printed text h (both_hold (is_printed printed text && begins_apart printed && ends_apart printed) (are_steps_apart part member) a).1) (done k))
@@ -299,11 +303,9 @@ module _ (f : Formats) (v : Values) (printable : is_printable f ≡ true) where
     lex_piece (node (operands n) ts) s h a rest k = loose k
     lex_piece (node (successor n) ts) s h a rest k = loose k
     lex_piece (node region ts) s h a rest k = loose k
-    lex_piece (node (name cs) ts) step.symbol_name h a rest k = loose (signed 64 refl (lexeme cs (identifier_is cs h.1) (done k)))
-    lex_piece (node (name cs) ts) step.a_name h a rest k = lexeme cs (identifier_is cs h.1) (done k)
-    lex_piece (node (name cs) ts) _ h a rest k = absurd h.0
-    lex_piece (node (number negative magnitude) ts) s h a rest k = lexeme _ (number_is negative magnitude h.1) (done k)
-    lex_piece (node (width sign bits) ts) s h a rest k = lexeme _ (width_is sign bits h.1) (done k)
+    lex_piece (node (leaf x) ts) step.symbol_name h a rest k = loose (signed 64 refl (lexeme (leaf_text x) (leaf_is x h.1) (done k)))
+    lex_piece (node (leaf x) ts) (step.a_leaf sort) h a rest k = lexeme (leaf_text x) (leaf_is x h.1) (done k)
+    lex_piece (node (leaf x) ts) _ h a rest k = absurd h.0
 
     lex_pieces : (ts : Pieces) (ss : List Step) → FitAll f v ss ts → AreMarked ss (parts_on f ts)
     lex_pieces no_tree [] h = tt
@@ -321,8 +323,8 @@ module _ (f : Formats) (v : Values) (printable : is_printable f ≡ true) where
     lex_item (node item ts) member printed text h a rest k = acted (lex_format a_word part member (parts_on f ts) (did act.EndItem ∷ rest) a (lex_pieces ts (parts_in member) h) (done k))
     lex_item (node _ ts) member printed text h a rest k = absurd h
 
-  lex_type : (t : ValueTree) (rest : List Mark) → Fits f v step.a_type t → IsNext rest → IsLexed (type_on f t rest)
-  lex_type t rest h k = lex_piece t step.a_type h refl rest k
+  lex_type : (t : ValueTree) (rest : List Mark) → Fits f v (step.a_value sorts.«Type») t → IsNext rest → IsLexed (type_on f t rest)
+  lex_type t rest h k = lex_piece t (step.a_value sorts.«Type») h refl rest k
 
   -- ---- heads
 
@@ -337,7 +339,7 @@ module _ (f : Formats) (v : Values) (printable : is_printable f ≡ true) where
   lex_all_parts (a_tree (node region x) ts) (s ∷ ss) us ls rs h u l r = (lex_first s rs r, lex_all_parts ts ss us ls (drop 1 rs) h.1 u l (drop_next 1 rs r))
   lex_all_parts (a_tree (node p x) ts) (s ∷ ss) us ls rs h u l r = (lex_piece (node p x) s h.0, lex_all_parts ts ss us ls rs h.1 u l r)
 
-  lex_argument : (x : List ℕ × ValueTree) (rest : List Mark) → is_identifier x.0 ≡ true → Fits f v step.a_type x.1 → IsNext rest → IsLexed (argument_on f x rest)
+  lex_argument : (x : List ℕ × ValueTree) (rest : List Mark) → is_identifier x.0 ≡ true → Fits f v (step.a_value sorts.«Type») x.1 → IsNext rest → IsLexed (argument_on f x rest)
   lex_argument x rest h g k = lexeme x.0 (identifier_is x.0 h) (done (sign_word 58 refl (lex_type x.1 rest g k)))
 
   lex_more_arguments : (xs : List (List ℕ × ValueTree)) (rest : List Mark) → AreIdentifiers (names_of xs) → FitArguments f v xs → IsNext rest → IsNext (more_arguments_on f xs rest)
@@ -400,7 +402,7 @@ module _ (f : Formats) (v : Values) (printable : is_printable f ≡ true) where
 -- The tokens of a layout, each with its characters and of its kind.
 pub layout_tokens : (f : Formats) (v : Values) (t : Entity (List ℕ)) → is_printable f ≡ true → FitsTree f v t → IsSpelt t
     → let ms = marks f t in let cs = characters ms ++ 10 ∷ [] in
-    (ts : List Token) × ReadsAs cs 0 ts × (map (text_of cs) ts ≡ tokens ms) × (map (λ (x : Token). x.kind) ts ≡ map sort_of (tokens ms))
+    (ts : List Token) × ReadsAs cs 0 ts × (map (text_of cs) ts ≡ tokens ms) × (map (λ (x : Token). x.kind) ts ≡ map kind_of_text (tokens ms))
 layout_tokens f v t p g s =
     let a = placed_all (lexemes.lined (lex_marks f v p t g s).opens.read) in
     (a.found, a.read, a.texts, a.sorts)

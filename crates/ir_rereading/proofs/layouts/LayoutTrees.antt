@@ -5,7 +5,7 @@ use Rattle.ir_names.specs.Tree.{Trees, node, no_tree, a_tree, join}
 use Rattle.ir_print.specs.Formats as step
 use Rattle.ir_print.specs.Formats.{Formats, Kind, Steps}
 use Rattle.ir_print.specs.Layout.{line}
-use Rattle.ir_print.specs.Pieces.{type_of_kind, attribute_of_kind, list, item, operands, successor, region, name, number, width, ValueTree, Pieces, Values, operation, a_region, block, Entity, entity, Entities, no_entity, an_entity}
+use Rattle.ir_print.specs.Pieces.{value_of_kind, list, item, operands, successor, region, leaf, ValueTree, Pieces, Values, operation, a_region, block, Entity, entity, Entities, no_entity, an_entity}
 use Rattle.ir_print.specs.Shapes.{parts_in, Fits, FitArguments}
 use Rattle.ir_forest.specs.Closed.{IsOperation, AreRegions, IsRegion, AreBlocks, IsBlock, AreOperations, FitsTree, FitTrees}
 use Rattle.ir_grammar.specs.declared.grammar.Action.TheVariants as act
@@ -17,6 +17,7 @@ use Rattle.ir_rereading.proofs.layouts.LayoutParts.{AreFine, HaveTexts, Gives, R
 use Rattle.ir_rereading.proofs.layouts.LayoutValues.{IsPlain, join_none, kind_at_read, parts_read, here}
 use Rattle.ir_rereading.proofs.layouts.LayoutOperations.{ArePlainArguments, IsPlainTree, ArePlainTrees, RegionsRead, all_parts_read}
 use Rattle.ir_rereading.proofs.layouts.LayoutEntities.{SaysArguments, no_arguments, more_arguments, argument_says, SaysEntities, none_said, more_said, SaysAllEntities, say_all_entities, SaysBody, body_says, block_says, region_says, operation_says, results_read}
+use Rattle.ir_print.specs.declared.format.ValueSort.TheVariants as sorts
 use Rattle.ir_rereading.proofs.layouts.Marks.{Mark, white, token, word, did, tokens, events, kind_on, type_on, parts_on, results_on, all_parts_on, argument_on, more_arguments_on, arguments_on, operation_on, regions_on, region_on, blocks_on, block_on, operations_on, more_operations_on, marks, IsSpelt, AreSpelt}
 
 module _ (f : Formats) (v : Values) (text : ℕ → List ℕ) where
@@ -24,28 +25,26 @@ module _ (f : Formats) (v : Values) (text : ℕ → List ℕ) where
 
   -- one tree that says a type
   abbrev IsType : ℕ → Pieces → Trees ActionSpan → Type 0
-  IsType n ts xs = (i : ℕ) × IsNode (act.BeginType n) i (Says v text ts [] [] no_entity) xs
+  IsType n ts xs = (i : ℕ) × IsNode (act.Begin sorts.«Type» n) i (Says v text ts [] [] no_entity) xs
 
-  typed_read : (cs : List ℕ) (t : ValueTree) → Fits f v step.a_type t → IsPlain t
+  typed_read : (cs : List ℕ) (t : ValueTree) → Fits f v (step.a_value sorts.«Type») t → IsPlain t
       → Reads text (SaysArguments v text ((cs, t) ∷ [])) (λ rest. token cs ∷ did act.Argument ∷ word (codes ": ") (codes ":") ∷ type_on f t rest)
-  typed_read cs (node (type_of_kind n) ts) fit plain k rest h =
-      let t = node (type_of_kind n) ts in
+  typed_read cs (node (value_of_kind sorts.«Type» n) ts) fit plain k rest h =
+      let t = node (value_of_kind sorts.«Type» n) ts in
       let mid = word (codes ": ") (codes ":") ∷ type_on f t rest in
-      let read : Reads text (IsType n ts) (kind_on (slice_get f.types n) (act.BeginType n) act.EndType (parts_on f ts)) =
-      kind_at_read f v text (slice_get f.types n) fit.1 fit.2 (act.BeginType n) act.EndType refl ts [] [] no_entity (parts_on f ts) (parts_read f v text ts (parts_in fit.1.format) fit.3 plain) (IsType n ts) (λ i xs q. (i, q)) in
+      let read : Reads text (IsType n ts) (kind_on (slice_get f.types n) (act.Begin sorts.«Type» n) (act.End sorts.«Type») (parts_on f ts)) =
+      kind_at_read f v text (slice_get f.types n) fit.1 fit.2 (act.Begin sorts.«Type» n) (act.End sorts.«Type») refl ts [] [] no_entity (parts_on f ts) (parts_read f v text ts (parts_in fit.1.format) fit.3 plain) (IsType n ts) (λ i xs q. (i, q)) in
       taken text k (did act.Argument ∷ mid) rest cs
       (then text (k + 1) (did act.Argument ∷ mid) mid rest (λ ys zs l q. argument_says v text cs n (k + 1 - 1) q.0 ts ys zs (here v text k cs h.0) fit.4 l q.1)
       (single text act.Argument refl (k + 1) mid h.1)
       (λ n g. worded text n (type_on f t rest) rest (codes ": ") (codes ":") (read (n + 1) rest g.1)))
-  typed_read cs (node (attribute_of_kind n) ts) fit plain k rest h = let e = fit.0 in cc
+  typed_read cs (node (value_of_kind sorts.Attribute n) ts) fit plain k rest h = let e = fit.0 in cc
   typed_read cs (node list ts) fit plain k rest h = absurd fit
   typed_read cs (node item ts) fit plain k rest h = absurd fit
   typed_read cs (node (operands n) ts) fit plain k rest h = absurd plain
   typed_read cs (node (successor n) ts) fit plain k rest h = absurd plain
   typed_read cs (node region ts) fit plain k rest h = absurd plain
-  typed_read cs (node (name x) ts) fit plain k rest h = absurd fit.0
-  typed_read cs (node (number negative magnitude) ts) fit plain k rest h = let e = fit.0 in cc
-  typed_read cs (node (width sign bits) ts) fit plain k rest h = let e = fit.0 in cc
+  typed_read cs (node (leaf x) ts) fit plain k rest h = absurd fit.0
 
   more_arguments_read : (xs : List (List ℕ × ValueTree)) → FitArguments f v xs → ArePlainArguments xs → Reads text (SaysArguments v text xs) (more_arguments_on f xs)
   more_arguments_read [] fit plain k rest h = nothing text (SaysArguments v text []) k rest (no_arguments v text) h

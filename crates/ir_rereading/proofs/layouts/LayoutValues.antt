@@ -1,35 +1,34 @@
 -- Reading the layout of a type or an attribute says it again.
-use Rattle.std.proofs.Common.{◌≡◌, ℕ, zero, suc, ◌+◌, ◌-◌, ◌<◌, List, [], ◌∷◌, Bool, map, Option, Some, None, slice_get, codes, arith, refl, ap, sym, subst, ◌∙◌}
+use Rattle.std.proofs.Common.{◌≡◌, ℕ, zero, suc, ◌+◌, ◌-◌, ◌<◌, List, [], ◌∷◌, map, Option, Some, None, slice_get, codes, arith, refl, ap, sym, subst, ◌∙◌}
 use Rattle.std.proofs.lemmas.List.{append-nil}
 use Rattle.ir_names.specs.Tree.{Trees, node, no_tree, a_tree, join}
 use Rattle.ir_print.specs.Formats as step
-use Rattle.ir_print.specs.Formats.{Formats, Kind, Steps, no_steps}
-use Rattle.ir_print.specs.Layout.{a_word, member_of, number_text, width_text, AreFlat, AreShallow, Deeper}
-use Rattle.ir_print.specs.Pieces.{type_of_kind, attribute_of_kind, list, item, operands, successor, region, name, number, width, ValueTree, Pieces, Values, Entities, no_entity}
-use Rattle.ir_print.specs.Shapes.{parts_in, IsListOf, TakesName, Fits, FitAll, FitMembers, FitsMember}
+use Rattle.ir_print.specs.Formats.{Formats, Kind, Steps, no_steps, kinds_of}
+use Rattle.ir_print.specs.declared.format.LeafSort.{LeafSort}
+use Rattle.ir_print.specs.declared.format.ValueSort.{ValueSort}
+use Rattle.ir_print.specs.Layout.{a_word, member_of, leaf_text, AreFlat, AreShallow, Deeper}
+use Rattle.ir_print.specs.Pieces.{value_of_kind, list, item, operands, successor, region, Leaf, leaf, ValueTree, Pieces, Values, refused_value, canonical_value, Entities, no_entity}
+use Rattle.ir_print.specs.Shapes.{parts_in, IsListOf, sort_of, TakesLeaf, IsInRange, Fits, FitAll, FitMembers, FitsMember}
 use Rattle.ir_grammar.specs.declared.grammar.Action.{Action}
 use Rattle.ir_grammar.specs.declared.grammar.Action.TheVariants as act
 use Rattle.ir_forest.specs.Forest.{end_of, ActionSpan}
-use Rattle.ir_forest.specs.Meaning.{number_in, width_in, pieces_in, operands_in, successors_in, regions_in, all_renamed}
-use Rattle.ir_rereading.proofs.layouts.LayoutNumbers.{number_again, width_again}
+use Rattle.ir_forest.specs.Meaning.{leaf_in, pieces_in, operands_in, successors_in, regions_in, all_renamed}
+use Rattle.ir_rereading.proofs.layouts.LayoutNumbers.{leaf_again}
 use Rattle.ir_rereading.proofs.layouts.LayoutParts.{joined_none, AreLow, AreFine, HaveTexts, Gives, Reads, so, then, taken, worded, nothing, IsNode, IsLeaf, between, single, Says, says_none, says_more, AreRead, format_read, kind_read}
-use Rattle.ir_rereading.proofs.layouts.Marks.{token, did, Marker, format_on, kind_on, name_on, members_on, more_members_on, piece_on, parts_on}
+use Rattle.ir_rereading.proofs.layouts.Marks.{token, did, Marker, format_on, kind_on, leaf_on, members_on, more_members_on, piece_on, parts_on}
 
 -- ---- what is printed whole
 
 abbrev mutual
   -- a type, an attribute, or a part of one: no operands, edges and regions stand in it, and nothing stands below its names and numbers
   pub IsPlain : ValueTree → Type 0
-  IsPlain (node (type_of_kind n) ts) = ArePlain ts
-  IsPlain (node (attribute_of_kind n) ts) = ArePlain ts
+  IsPlain (node (value_of_kind sort n) ts) = ArePlain ts
   IsPlain (node list ts) = ArePlain ts
   IsPlain (node item ts) = ArePlain ts
   IsPlain (node (operands n) ts) = ⊥
   IsPlain (node (successor n) ts) = ⊥
   IsPlain (node region ts) = ⊥
-  IsPlain (node (name cs) ts) = ts ≡ no_tree
-  IsPlain (node (number negative magnitude) ts) = ts ≡ no_tree
-  IsPlain (node (width sign bits) ts) = ts ≡ no_tree
+  IsPlain (node (leaf x) ts) = ts ≡ no_tree
 
   -- the same of each piece
   pub ArePlain : Pieces → Type 0
@@ -74,25 +73,13 @@ module _ (v : Values) (text : ℕ → List ℕ) where
 
   -- ---- pieces with others in them
 
-  pub type_says : (n i : ℕ) (ts : Pieces) (xs : Trees ActionSpan) → v.refused_type n ts ≡ None → IsNode (act.BeginType n) i (Says v text ts [] [] no_entity) xs → SaysOne (node (type_of_kind n) ts) xs
-  type_says n i ts xs fit q =
+  pub value_says : (sort : ValueSort) (n i : ℕ) (ts : Pieces) (xs : Trees ActionSpan) → refused_value v sort n ts ≡ None → canonical_value v sort n ts ≡ ts → IsNode (act.Begin sort n) i (Says v text ts [] [] no_entity) xs
+      → SaysOne (node (value_of_kind sort n) ts) xs
+  value_says sort n i ts xs fit canonical q =
       let a = say_all v text ts [] [] no_entity q.1 q.3 in
-      subst (SaysOne (node (type_of_kind n) ts)) (sym q.2) (record {
-        fine = λ rest h. (tt, ap (v.refused_type n) a.pieces ∙ fit, tt, a.fine, h);
-        pieces = λ rest. ap (λ z. a_tree (node (type_of_kind n) z) (pieces_in v text rest)) a.pieces;
-        operands = λ rest. refl;
-        successors = λ rest. refl;
-        regions = λ rest. refl;
-        low = λ d e s f g rest h. let r = deeper (λ e. AreFlat e ts) (λ d. AreLow d q.1) d e s f.0 (λ d e s f. a.low d e s f tt) in (λ w. r.0, r.1, h);
-      })
-
-  pub attribute_says : (n i : ℕ) (ts : Pieces) (xs : Trees ActionSpan) → v.refused_attribute n ts ≡ None → v.canonical n ts ≡ ts → IsNode (act.BeginAttribute n) i (Says v text ts [] [] no_entity) xs
-      → SaysOne (node (attribute_of_kind n) ts) xs
-  attribute_says n i ts xs fit canonical q =
-      let a = say_all v text ts [] [] no_entity q.1 q.3 in
-      subst (SaysOne (node (attribute_of_kind n) ts)) (sym q.2) (record {
-        fine = λ rest h. (tt, ap (v.refused_attribute n) a.pieces ∙ fit, tt, a.fine, h);
-        pieces = λ rest. ap (λ z. a_tree (node (attribute_of_kind n) z) (pieces_in v text rest)) (ap (v.canonical n) a.pieces ∙ canonical);
+      subst (SaysOne (node (value_of_kind sort n) ts)) (sym q.2) (record {
+        fine = λ rest h. (tt, ap (refused_value v sort n) a.pieces ∙ fit, tt, a.fine, h);
+        pieces = λ rest. ap (λ z. a_tree (node (value_of_kind sort n) z) (pieces_in v text rest)) (ap (canonical_value v sort n) a.pieces ∙ canonical);
         operands = λ rest. refl;
         successors = λ rest. refl;
         regions = λ rest. refl;
@@ -128,49 +115,34 @@ module _ (v : Values) (text : ℕ → List ℕ) where
   pub here : (k : ℕ) (cs : List ℕ) → text k ≡ cs → text (k + 1 - 1) ≡ cs
   here k cs h = let same : k + 1 - 1 ≡ k = omega arith in ap text same ∙ h
 
-  name_says : (i : ℕ) (cs : List ℕ) (ts : Pieces) (xs : Trees ActionSpan) → text i ≡ cs → ts ≡ no_tree → IsLeaf act.Name i xs → SaysOne (node (name cs) ts) xs
-  name_says i cs ts xs h e q = subst (SaysOne (node (name cs) ts)) (sym q) (subst (λ z. SaysOne (node (name cs) z) (a_tree (node (record { action = act.Name; first = i; last = i }) no_tree) no_tree)) (sym e) (record {
-    fine = λ rest h. ((refl, refl, refl), refl, tt, tt, h);
-    pieces = λ rest. ap (λ z. a_tree (node (name z) no_tree) (pieces_in v text rest)) h;
-    operands = λ rest. refl;
-    successors = λ rest. refl;
-    regions = λ rest. refl;
-    low = λ d e s f g rest h. (λ w. cc, tt, h);
-  }))
-
-  number_says : (i : ℕ) (cs : List ℕ) (negative : Bool) (magnitude : ℕ) (ts : Pieces) (xs : Trees ActionSpan) → text i ≡ cs → number_in cs ≡ number negative magnitude → ts ≡ no_tree → IsLeaf act.Number i xs
-      → SaysOne (node (number negative magnitude) ts) xs
-  number_says i cs negative magnitude ts xs h r e q = subst (SaysOne (node (number negative magnitude) ts)) (sym q) (subst (λ z. SaysOne (node (number negative magnitude) z) (a_tree (node (record { action = act.Number; first = i; last = i }) no_tree) no_tree)) (sym e) (record {
-    fine = λ rest h. ((refl, refl, refl), refl, tt, tt, h);
-    pieces = λ rest. ap (λ z. a_tree (node z no_tree) (pieces_in v text rest)) (ap number_in h ∙ r);
-    operands = λ rest. refl;
-    successors = λ rest. refl;
-    regions = λ rest. refl;
-    low = λ d e s f g rest h. (λ w. cc, tt, h);
-  }))
-
-  width_says : (i : ℕ) (cs : List ℕ) (p : ValueTree) (ts : Pieces) (xs : Trees ActionSpan) → text i ≡ cs → node (width_in cs) ts ≡ p → ts ≡ no_tree → IsLeaf act.Width i xs → SaysOne p xs
-  width_says i cs p ts xs h r e q = subst (SaysOne p) (sym q) (subst (λ z. SaysOne z (a_tree (node (record { action = act.Width; first = i; last = i }) no_tree) no_tree)) r (subst (λ z. SaysOne (node (width_in cs) z) (a_tree (node (record { action = act.Width; first = i; last = i }) no_tree) no_tree)) (sym e) (record {
-    fine = λ rest h. ((refl, refl, refl), refl, tt, tt, h);
-    pieces = λ rest. ap (λ z. a_tree (node (width_in z) no_tree) (pieces_in v text rest)) h;
-    operands = λ rest. refl;
-    successors = λ rest. refl;
-    regions = λ rest. refl;
-    low = λ d e s f g rest h. (λ w. cc, tt, h);
-  })))
+  leaf_says : (sort : LeafSort) (i : ℕ) (cs : List ℕ) (x : Leaf) (ts : Pieces) (xs : Trees ActionSpan) → text i ≡ cs → leaf_in sort cs ≡ x → ts ≡ no_tree → IsLeaf (act.Leaf sort) i xs → SaysOne (node (leaf x) ts) xs
+  leaf_says sort i cs x ts xs h r e q =
+      let s : ActionSpan = record { action = act.Leaf sort; first = i; last = i } in
+      subst (SaysOne (node (leaf x) ts)) (sym q) (subst (λ z. SaysOne (node (leaf x) z) (a_tree (node s no_tree) no_tree)) (sym e) (record {
+        fine = λ rest h. ((refl, refl, refl), refl, tt, tt, h);
+        pieces = λ rest. ap (λ z. a_tree (node (leaf z) no_tree) (pieces_in v text rest)) (ap (leaf_in sort) h ∙ r);
+        operands = λ rest. refl;
+        successors = λ rest. refl;
+        regions = λ rest. refl;
+        low = λ d e s f g rest h. (λ w. cc, tt, h);
+      }))
 
 module _ (f : Formats) (v : Values) (text : ℕ → List ℕ) where
-  -- ---- names
+  -- ---- leaves
 
-  name_read : (s : step.Step) (cs : List ℕ) (ts : Pieces) → TakesName s → ts ≡ no_tree → Reads text (SaysOne v text (node (name cs) ts)) (name_on s cs)
-  name_read step.symbol_name cs ts t e k rest h =
-      taken text k (token cs ∷ did act.Name ∷ rest) rest (codes "@")
-      (taken text (k + 1) (did act.Name ∷ rest) rest cs
-      (so text (k + 1 + 1) (did act.Name ∷ rest) rest (λ xs q. name_says v text (k + 1 + 1 - 1) cs ts xs (here v text (k + 1) cs h.1.0) e q) (single text act.Name refl (k + 1 + 1) rest h.1.1)))
-  name_read step.a_name cs ts t e k rest h =
-      taken text k (did act.Name ∷ rest) rest cs
-      (so text (k + 1) (did act.Name ∷ rest) rest (λ xs q. name_says v text (k + 1 - 1) cs ts xs (here v text k cs h.0) e q) (single text act.Name refl (k + 1) rest h.1))
-  name_read _ cs ts t e k rest h = absurd t
+  leaf_read : (s : step.Step) (x : Leaf) (ts : Pieces) → TakesLeaf s (sort_of x) → IsInRange x → ts ≡ no_tree → Reads text (SaysOne v text (node (leaf x) ts)) (leaf_on s (sort_of x) (leaf_text x))
+  leaf_read step.symbol_name x ts t r e k rest h =
+      let mark = did (act.Leaf (sort_of x)) ∷ rest in
+      taken text k (token (leaf_text x) ∷ mark) rest (codes "@")
+      (taken text (k + 1) mark rest (leaf_text x)
+      (so text (k + 1 + 1) mark rest (λ xs q. leaf_says v text (sort_of x) (k + 1 + 1 - 1) (leaf_text x) x ts xs (here v text (k + 1) (leaf_text x) h.1.0) (leaf_again x r) e q)
+      (single text (act.Leaf (sort_of x)) refl (k + 1 + 1) rest h.1.1)))
+  leaf_read (step.a_leaf sort) x ts t r e k rest h =
+      let mark = did (act.Leaf (sort_of x)) ∷ rest in
+      taken text k mark rest (leaf_text x)
+      (so text (k + 1) mark rest (λ xs q. leaf_says v text (sort_of x) (k + 1 - 1) (leaf_text x) x ts xs (here v text k (leaf_text x) h.0) (leaf_again x r) e q)
+      (single text (act.Leaf (sort_of x)) refl (k + 1) rest h.1))
+  leaf_read _ x ts t r e k rest h = absurd t
 
   -- what a kind's texts are read as
   pub kind_at_read : (o : Option Kind) (c : Kind) → o ≡ Some c → (begins ends : Action) → end_of begins ≡ Some ends → (ts : Pieces) (us ls : List (List ℕ)) (rs : Entities (List ℕ)) (ps : List (Option Marker)) → AreRead v text (parts_in c.format) ts us ls rs ps
@@ -199,28 +171,15 @@ module _ (f : Formats) (v : Values) (text : ℕ → List ℕ) where
 
   mutual
     pub piece_read : (t : ValueTree) (s : step.Step) → Fits f v s t → IsPlain t → Reads text (SaysOne v text t) (piece_on f t s)
-    piece_read (node (type_of_kind n) ts) s fit plain =
-        kind_at_read (slice_get f.types n) fit.1 fit.2 (act.BeginType n) act.EndType refl ts [] [] no_entity (parts_on f ts) (parts_read ts (parts_in fit.1.format) fit.3 plain)
-        (SaysOne v text (node (type_of_kind n) ts)) (λ i xs q. type_says v text n i ts xs fit.4 q)
-    piece_read (node (attribute_of_kind n) ts) s fit plain =
-        kind_at_read (slice_get f.attributes n) fit.1 fit.2 (act.BeginAttribute n) act.EndAttribute refl ts [] [] no_entity (parts_on f ts) (parts_read ts (parts_in fit.1.format) fit.3 plain)
-        (SaysOne v text (node (attribute_of_kind n) ts)) (λ i xs q. attribute_says v text n i ts xs fit.4 fit.5 q)
+    piece_read (node (value_of_kind sort n) ts) s fit plain =
+        kind_at_read (slice_get (kinds_of f sort) n) fit.1 fit.2 (act.Begin sort n) (act.End sort) refl ts [] [] no_entity (parts_on f ts) (parts_read ts (parts_in fit.1.format) fit.3 plain)
+        (SaysOne v text (node (value_of_kind sort n) ts)) (λ i xs q. value_says v text sort n i ts xs fit.4 fit.5 q)
     piece_read (node list ts) s fit plain = list_read s ts fit (λ member printed cs fits. members_read ts member printed cs fits plain)
     piece_read (node item ts) s fit plain = absurd fit
     piece_read (node (operands n) ts) s fit plain = absurd plain
     piece_read (node (successor n) ts) s fit plain = absurd plain
     piece_read (node region ts) s fit plain = absurd plain
-    piece_read (node (name cs) ts) s fit plain = name_read s cs ts fit.0 plain
-    piece_read (node (number negative magnitude) ts) s fit plain = λ k rest h.
-        taken text k (did act.Number ∷ rest) rest (number_text negative magnitude)
-        (so text (k + 1) (did act.Number ∷ rest) rest
-        (λ xs q. number_says v text (k + 1 - 1) (number_text negative magnitude) negative magnitude ts xs (here v text k (number_text negative magnitude) h.0) (number_again negative magnitude fit.1) plain q)
-        (single text act.Number refl (k + 1) rest h.1))
-    piece_read (node (width sign bits) ts) s fit plain = λ k rest h.
-        taken text k (did act.Width ∷ rest) rest (width_text sign bits)
-        (so text (k + 1) (did act.Width ∷ rest) rest
-        (λ xs q. width_says v text (k + 1 - 1) (width_text sign bits) (node (width sign bits) ts) ts xs (here v text k (width_text sign bits) h.0) (ap (λ z. node z ts) (width_again sign bits fit.1)) plain q)
-        (single text act.Width refl (k + 1) rest h.1))
+    piece_read (node (leaf x) ts) s fit plain = leaf_read s x ts fit.0 fit.1 plain
 
     pub parts_read : (ts : Pieces) (ss : List step.Step) → FitAll f v ss ts → ArePlain ts → AreRead v text ss ts [] [] no_entity (parts_on f ts)
     parts_read no_tree [] fit plain = (refl, refl, refl)

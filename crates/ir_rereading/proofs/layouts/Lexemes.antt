@@ -14,7 +14,7 @@ use Rattle.ir_tokens.specs.declared.tokens.TokenKind.TheVariants as kinds
 use Rattle.ir_tokens.specs.declared.tokens.Token as place
 use Rattle.ir_tokens.specs.Tokens.{is_letter, is_digit, is_name_char, is_sign, AreAllOfKind, IsName, AreDigits, IsInMemory, Spells, NoLonger, ReadsAs}
 use Rattle.ir_formats.specs.Words as words
-use Rattle.ir_rereading.proofs.layouts.Marks.{sort_of, has_dot, behind_minus}
+use Rattle.ir_rereading.proofs.layouts.Marks.{kind_of_text, has_dot, behind_minus}
 use Rattle.ir_tokens.proofs.TokenLongest.{name_longest, dotted_longest, digits_longest, negative_longest, arrow_longest, sign_longest}
 use Rattle.ir_tokens.proofs.TokenSteps.{gap_more, token_more, spells_after}
 use Rattle.ir_formats.proofs.Between.{digit_visible, sign_visible}
@@ -169,7 +169,7 @@ abbrev other_sort : ℕ → List ℕ → TokenKind
 other_sort c cs = if is_digit c then kinds.Digits else (if c == 45 then behind_minus cs else kinds.Sign c)
 
 -- the kind of a token is seen from its characters
-pub sort_is : (t : Lexeme) → is_spelled t ≡ true → sort_of (text_of t) ≡ kind_of t
+pub sort_is : (t : Lexeme) → is_spelled t ≡ true → kind_of_text (text_of t) ≡ kind_of t
 sort_is (Word []) h = absurd (let t : false ≡ true = h in cc)
 sort_is (Word (c ∷ w)) h =
     let b = both_hold (is_letter c) (list_all is_name_char w) h in
@@ -364,7 +364,7 @@ pub record ArePlaced (whole : List ℕ) (i : ℕ) (xs : List (List ℕ)) : Type 
   pub found : List place.Token
   pub read : ReadsAs whole i found
   pub texts : map (words.text_of whole) found ≡ xs
-  pub sorts : map (λ (t : place.Token). t.kind) found ≡ map sort_of xs
+  pub sorts : map (λ (t : place.Token). t.kind) found ≡ map kind_of_text xs
 
 joined : {A : Type 0} (a b : A) (xs ys : List A) → a ≡ b → xs ≡ ys → ◌≡◌ {A = List A} (a ∷ xs) (b ∷ ys)
 joined a b xs ys e f = ap (λ x. x ∷ xs) e ∙ ap (λ z. b ∷ z) f
@@ -387,7 +387,7 @@ places whole i (taken {cs} {xs} t x same s e l) r' =
       found = placed i t ∷ p.found;
       read = token_more whole i (placed i t) p.found refl (record { begins = omega (arith, q.total); visible = h.visible; inside = omega (arith, q.total); spelled = h.spelled; longest = h.longest }) (not_bad t) p.read;
       texts = joined _ x _ xs (here_text whole i t cs r ∙ same) p.texts;
-      sorts = joined _ (sort_of x) _ (map sort_of xs) (sym (sort_is t s) ∙ ap sort_of same) p.sorts;
+      sorts = joined _ (kind_of_text x) _ (map kind_of_text xs) (sym (sort_is t s) ∙ ap kind_of_text same) p.sorts;
     }
 
 -- The characters of these tokens are read as them.

@@ -2,10 +2,11 @@
 use Rattle.std.proofs.Common.{◌≡◌, ℕ, ◌+◌, List, [], ◌∷◌, ◌++◌, Bool, true, map, take, drop, Option, Some, None, slice_get, codes}
 use Rattle.ir_names.specs.Tree.{node, no_tree, a_tree}
 use Rattle.ir_print.specs.Formats as step
-use Rattle.ir_print.specs.Formats.{Formats, Kind, Step, Steps, no_steps}
+use Rattle.ir_print.specs.Formats.{Formats, Kind, Step, Steps, no_steps, kinds_of}
 use Rattle.ir_print.specs.Layout as layout
-use Rattle.ir_print.specs.Layout.{Chunk, Before, an_id, a_word, a_part, gap_of_word, gap_of_part, space, line, word_of, member_of, width_text, number_text}
-use Rattle.ir_print.specs.Pieces.{type_of_kind, attribute_of_kind, list, item, operands, successor, region, name, number, width, ValueTree, Pieces, EntityHead, operation, a_region, block, Entity, entity, Entities, no_entity, an_entity}
+use Rattle.ir_print.specs.Layout.{Chunk, Before, an_id, a_word, a_part, gap_of_word, gap_of_part, space, line, word_of, member_of, leaf_text}
+use Rattle.ir_print.specs.Pieces.{value_of_kind, list, item, operands, successor, region, leaf, ValueTree, Pieces, EntityHead, operation, a_region, block, Entity, entity, Entities, no_entity, an_entity}
+use Rattle.ir_print.specs.Shapes.{sort_of}
 use Rattle.ir_grammar.specs.declared.grammar.Action.{Action}
 use Rattle.ir_grammar.specs.declared.grammar.Action.TheVariants as act
 use Rattle.ir_grammar.specs.declared.grammar.Event.{Event}
@@ -18,6 +19,8 @@ use Rattle.ir_formats.specs.Rules.{number_of}
 use Rattle.ir_formats.specs.Words.{is_spelled, word_kind, shape_kind}
 use Rattle.ir_forest.specs.Closed.{names_of}
 use Rattle.std.specs.List.{list_any}
+use Rattle.ir_print.specs.declared.format.LeafSort.{LeafSort}
+use Rattle.ir_print.specs.declared.format.ValueSort.TheVariants as sorts
 use Rattle.std.specs.Prelude.{◌==◌, if◌then◌else◌, length}
 
 -- a chunk, or an action
@@ -87,9 +90,10 @@ kind_on (Some k) begins ends ps rest = token k.id ∷ did begins ∷ format_on a
 
 -- ---- types and attributes
 
-abbrev pub name_on : Step → List ℕ → List Mark → List Mark
-name_on step.symbol_name cs rest = token (codes "@") ∷ token cs ∷ did act.Name ∷ rest
-name_on _ cs rest = token cs ∷ did act.Name ∷ rest
+-- a leaf of a sort, with these characters
+abbrev pub leaf_on : Step → LeafSort → List ℕ → List Mark → List Mark
+leaf_on step.symbol_name sort cs rest = token (codes "@") ∷ token cs ∷ did (act.Leaf sort) ∷ rest
+leaf_on _ sort cs rest = token cs ∷ did (act.Leaf sort) ∷ rest
 
 abbrev pub separator_of : Step → Mark
 separator_of (step.list_of member printed text) = word printed text
@@ -109,23 +113,20 @@ members_on s (p ∷ ps) rest = some_on p s (more_members_on s ps rest)
 
 abbrev mutual
   pub piece_on : Formats → ValueTree → Marker
-  piece_on f (node (type_of_kind n) ts) s rest = kind_on (slice_get f.types n) (act.BeginType n) act.EndType (parts_on f ts) rest
-  piece_on f (node (attribute_of_kind n) ts) s rest = kind_on (slice_get f.attributes n) (act.BeginAttribute n) act.EndAttribute (parts_on f ts) rest
+  piece_on f (node (value_of_kind sort n) ts) s rest = kind_on (slice_get (kinds_of f sort) n) (act.Begin sort n) (act.End sort) (parts_on f ts) rest
   piece_on f (node list ts) s rest = did act.BeginList ∷ members_on s (parts_on f ts) (did act.EndList ∷ rest)
   piece_on f (node item ts) s rest = did act.BeginItem ∷ format_on a_word (member_of s) (parts_on f ts) (did act.EndItem ∷ rest)
   piece_on f (node (operands n) ts) s rest = rest
   piece_on f (node (successor n) ts) s rest = rest
   piece_on f (node region ts) s rest = rest
-  piece_on f (node (name cs) ts) s rest = name_on s cs rest
-  piece_on f (node (number negative magnitude) ts) s rest = token (number_text negative magnitude) ∷ did act.Number ∷ rest
-  piece_on f (node (width sign bits) ts) s rest = token (width_text sign bits) ∷ did act.Width ∷ rest
+  piece_on f (node (leaf x) ts) s rest = leaf_on s (sort_of x) (leaf_text x) rest
 
   pub parts_on : Formats → Pieces → List (Option Marker)
   parts_on f no_tree = []
   parts_on f (a_tree t ts) = Some (piece_on f t) ∷ parts_on f ts
 
 abbrev pub type_on : Formats → ValueTree → List Mark → List Mark
-type_on f t rest = piece_on f t step.a_type rest
+type_on f t rest = piece_on f t (step.a_value sorts.«Type») rest
 
 -- ---- operations, regions and blocks
 
@@ -249,11 +250,11 @@ behind_minus [] = kinds.Negative
 behind_minus (c ∷ cs) = if c == 62 then kinds.Arrow else kinds.Negative
 
 -- the kind of a token with these characters, as layouts have them
-abbrev pub sort_of : List ℕ → TokenKind
-sort_of [] = kinds.Bad
-sort_of (c ∷ cs) = if is_letter c then (if has_dot cs then kinds.Dotted else kinds.Name)
+abbrev pub kind_of_text : List ℕ → TokenKind
+kind_of_text [] = kinds.Bad
+kind_of_text (c ∷ cs) = if is_letter c then (if has_dot cs then kinds.Dotted else kinds.Name)
     else (if is_digit c then kinds.Digits else (if c == 45 then behind_minus cs else kinds.Sign c))
 
 -- its kind in a grammar with these words
 abbrev pub kind_by : List (List ℕ) → List ℕ → ℕ
-kind_by ws cs = if is_spelled (sort_of cs) then word_kind (number_of ws cs) (length ws) (shape_kind (sort_of cs) cs) else shape_kind (sort_of cs) cs
+kind_by ws cs = if is_spelled (kind_of_text cs) then word_kind (number_of ws cs) (length ws) (shape_kind (kind_of_text cs) cs) else shape_kind (kind_of_text cs) cs

@@ -24,7 +24,7 @@ use Rattle.ir_grammar.specs.Grammar.{accepted, accepts}
 use Rattle.ir_tokens.specs.Tokens.{is_letter, is_digit}
 use Rattle.ir_formats.specs.Words.{is_width, are_digits, is_spelled, word_kind, shape_kind}
 use Rattle.ir_formats.specs.Rules.{number_of, up, is_name, takes, class_of, classes_of, words_of, plain_classes}
-use Rattle.ir_rereading.proofs.layouts.Marks.{has_dot, behind_minus, sort_of, kind_by}
+use Rattle.ir_rereading.proofs.layouts.Marks.{has_dot, behind_minus, kind_of_text, kind_by}
 use Rattle.ir_formats.proofs.Spelled.{number_at}
 use Rattle.ir_rereading.proofs.layouts.Among.{IsAmong, number_below, among_below}
 use Rattle.ir_rereading.proofs.layouts.PlainWords.{Tested, is_word_among, not_width, word_spelled}
@@ -50,7 +50,7 @@ no_dots : (cs : List ℕ) → list_all is_later_code cs ≡ true → has_dot cs 
 no_dots [] h = refl
 no_dots (c ∷ cs) h = let t = both_hold (is_later_code c) (list_all is_later_code cs) h in or_false (c == 46) (has_dot cs) (later_no_dot c t.0) (no_dots cs t.1)
 
-identifier_sort : (cs : List ℕ) → is_identifier cs ≡ true → sort_of cs ≡ kinds.Name
+identifier_sort : (cs : List ℕ) → is_identifier cs ≡ true → kind_of_text cs ≡ kinds.Name
 identifier_sort [] h = cc
 identifier_sort (c ∷ cs) h =
     let t = both_hold (is_first_code c) (list_all is_later_code cs) h in
@@ -95,14 +95,14 @@ digit_sort c k l h = go (is_letter c) (is_digit c) (grind (arith, nat_tests)) h
     go true b d e = cc
     go false false d e = cc
 
-digits_sort : (ds : List ℕ) → are_digits ds ≡ true → sort_of ds ≡ kinds.Digits
+digits_sort : (ds : List ℕ) → are_digits ds ≡ true → kind_of_text ds ≡ kinds.Digits
 digits_sort [] h = cc
 digits_sort (c ∷ cs) h =
     let t = both_hold (list_all is_digit (c ∷ cs)) (nat_lt 0 (suc (length cs))) h in
     let u = both_hold (is_digit c) (list_all is_digit cs) t.0 in
     digit_sort c (if has_dot cs then kinds.Dotted else kinds.Name) (if c == 45 then behind_minus cs else kinds.Sign c) u.0
 
-negative_sort : (ds : List ℕ) → are_digits ds ≡ true → sort_of (45 ∷ ds) ≡ kinds.Negative
+negative_sort : (ds : List ℕ) → are_digits ds ≡ true → kind_of_text (45 ∷ ds) ≡ kinds.Negative
 negative_sort [] h = cc
 negative_sort (c ∷ cs) h =
     let t = both_hold (list_all is_digit (c ∷ cs)) (nat_lt 0 (suc (length cs))) h in
@@ -195,7 +195,7 @@ module _ (g : Grammar) (f : Formats) (signs : plain_classes g.signs.items ≡ cl
       let n = number_of ws w in
       let lt : n < length ws = number_below ws w h in
       let few = t.words in
-      let kind : kind_by ws w ≡ n + 5 = spelled_kind ws (sort_of w) w (word_spelled w (is_word_among f t w h)) ∙ word_kind_in n (length ws) (shape_kind (sort_of w) w) lt (omega arith) in
+      let kind : kind_by ws w ≡ n + 5 = spelled_kind ws (kind_of_text w) w (word_spelled w (is_word_among f t w h)) ∙ word_kind_in n (length ws) (shape_kind (kind_of_text w) w) lt (omega arith) in
       let sign : up n 3 ≡ suc (suc (suc n)) = up_is n (omega arith) in
       rw (sign, kind) (accepts_takes (suc (suc (suc n))) (n + 5) (omega arith) (omega arith) (takes_word ws n))
 

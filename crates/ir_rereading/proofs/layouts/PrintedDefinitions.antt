@@ -15,8 +15,8 @@ firsts f (r ∷ rs) = ap (λ xs. f r.0 ∷ xs) (firsts f rs)
 
 -- ---- names of blocks
 
-name_spelt : (name : List ℕ) → HasBlockName name → is_identifier name ≡ true
-name_spelt name h = subst (λ cs. is_identifier cs ≡ true) (sym h.spelt) (block_name_identifier h.given h.slot h.version h.small.0 h.small.1)
+name_spelt : (label name : List ℕ) → HasBlockName label name → is_identifier name ≡ true
+name_spelt label name h = subst (λ cs. is_identifier cs ≡ true) (sym h.spelt) (block_name_identifier h.given h.slot h.version h.small.0 h.small.1)
 
 identifier_at : (xs : List (List ℕ)) → AreIdentifiers xs → (i : ℕ) (x : List ℕ) → slice_get xs i ≡ Some x → is_identifier x ≡ true
 identifier_at [] h i x e = cc
@@ -32,19 +32,22 @@ both_spelt : (xs ys : List (List ℕ)) → AreIdentifiers xs → AreIdentifiers 
 both_spelt [] ys h k = k
 both_spelt (x ∷ xs) ys h k = (h.0, both_spelt xs ys h.1 k)
 
-named_spelt : (h : EntityHead (List ℕ)) → HasLabelName h → AreIdentifiers (named_in h)
-named_spelt (operation kind results used successors pieces) n = tt
-named_spelt a_region n = tt
-named_spelt (block named label arguments) n = (name_spelt named n.1, tt)
+named_spelt : (k : EntityHead ℕ) (h : EntityHead (List ℕ)) → HasLabelName k h → AreIdentifiers (named_in h)
+named_spelt k (operation kind results used successors pieces) n = tt
+named_spelt k a_region n = tt
+named_spelt (block at own typed) (block named label arguments) n = (name_spelt own named n.1, tt)
+named_spelt (operation kind results used successors pieces) (block named label arguments) n = absurd n
+named_spelt a_region (block named label arguments) n = absurd n
 
-blocks_spelt : (ts : Entities (List ℕ)) → HaveBlockNames ts → AreIdentifiers (blocks_among ts)
-blocks_spelt no_entity n = tt
-blocks_spelt (an_entity (entity h us) ts) n = both_spelt (named_in h) (blocks_among ts) (named_spelt h n.0.0) (blocks_spelt ts n.1)
+blocks_spelt : (us : Entities ℕ) (ts : Entities (List ℕ)) → HaveBlockNames us ts → AreIdentifiers (blocks_among ts)
+blocks_spelt us no_entity n = tt
+blocks_spelt no_entity (an_entity t ts) n = absurd n
+blocks_spelt (an_entity (entity k vs) us) (an_entity (entity h ws) ts) n = both_spelt (named_in h) (blocks_among ts) (named_spelt k h n.0.0) (blocks_spelt us ts n.1)
 
-within_spelt : (h : EntityHead (List ℕ)) (ts : Entities (List ℕ)) (bs : List (List ℕ)) → HaveBlockNames ts → AreIdentifiers bs → AreIdentifiers (blocks_within h ts bs)
-within_spelt (operation kind results used successors pieces) ts bs n b = b
-within_spelt a_region ts bs n b = blocks_spelt ts n
-within_spelt (block named label arguments) ts bs n b = b
+within_spelt : (h : EntityHead (List ℕ)) (us : Entities ℕ) (ts : Entities (List ℕ)) (bs : List (List ℕ)) → HaveBlockNames us ts → AreIdentifiers bs → AreIdentifiers (blocks_within h ts bs)
+within_spelt (operation kind results used successors pieces) us ts bs n b = b
+within_spelt a_region us ts bs n b = blocks_spelt us ts n
+within_spelt (block named label arguments) us ts bs n b = b
 
 module _ (number : ℕ → ℕ) (small : (n : ℕ) → number n < 2 ^ 64) (label_of : ℕ → List ℕ) where
   abbrev ν : ℕ → List ℕ
@@ -54,7 +57,7 @@ module _ (number : ℕ → ℕ) (small : (n : ℕ) → number n < 2 ^ 64) (label
   are_names [] = tt
   are_names (n ∷ ns) = (value_name_identifier (number n) (small n), are_names ns)
 
-  head_spelt : (h : EntityHead (List ℕ)) (k : EntityHead ℕ) (bs : List (List ℕ)) → unlabelled_head h ≡ unlabelled_head (renamed_head ν label_of k) → HasLabelName h
+  head_spelt : (h : EntityHead (List ℕ)) (k : EntityHead ℕ) (bs : List (List ℕ)) → unlabelled_head h ≡ unlabelled_head (renamed_head ν label_of k) → HasLabelName k h
       → AreIdentifiers bs → AreIn (head_goes_on h) bs → IsSpeltHead h
   head_spelt (operation kind results used successors pieces) (operation kind2 results2 used2 successors2 pieces2) bs e n b edges =
       let rs : results ≡ map (λ r. (ν r.0, r.1)) results2 = cc in
@@ -68,18 +71,18 @@ module _ (number : ℕ → ℕ) (small : (n : ℕ) → number n < 2 ^ 64) (label
   head_spelt a_region k bs e n b edges = tt
   head_spelt (block named label arguments) (block named2 label2 arguments2) bs e n b edges =
       let rs : arguments ≡ map (λ r. (ν r.0, r.1)) arguments2 = cc in
-      (n.0, subst (λ cs. is_identifier cs ≡ true) (sym n.0) (name_spelt named n.1), subst AreIdentifiers (sym (ap names_of rs ∙ firsts ν arguments2)) (are_names (names_of arguments2)))
+      (n.0, subst (λ cs. is_identifier cs ≡ true) (sym n.0) (name_spelt label2 named n.1), subst AreIdentifiers (sym (ap names_of rs ∙ firsts ν arguments2)) (are_names (names_of arguments2)))
   head_spelt (block named label arguments) a_region bs e n b edges = absurd (cc)
   head_spelt (block named label arguments) (operation kind results used successors pieces) bs e n b edges = absurd (cc)
 
   mutual
-    tree_spelt : (t : Entity (List ℕ)) (u : Entity ℕ) (bs : List (List ℕ)) → unlabelled t ≡ unlabelled (renamed ν label_of u) → HasBlockNames t → AreIdentifiers bs → HasEdges bs t → IsSpelt t
+    tree_spelt : (t : Entity (List ℕ)) (u : Entity ℕ) (bs : List (List ℕ)) → unlabelled t ≡ unlabelled (renamed ν label_of u) → HasBlockNames u t → AreIdentifiers bs → HasEdges bs t → IsSpelt t
     tree_spelt (entity h ts) (entity k us) bs e n b edges =
         let heads : unlabelled_head h ≡ unlabelled_head (renamed_head ν label_of k) = cc in
         let rest : all_unlabelled ts ≡ all_unlabelled (all_renamed ν label_of us) = cc in
-        (head_spelt h k bs heads n.0 b edges.0, trees_spelt ts us (blocks_within h ts bs) rest n.1 (within_spelt h ts bs n.1 b) edges.1)
+        (head_spelt h k bs heads n.0 b edges.0, trees_spelt ts us (blocks_within h ts bs) rest n.1 (within_spelt h us ts bs n.1 b) edges.1)
 
-    trees_spelt : (ts : Entities (List ℕ)) (us : Entities ℕ) (bs : List (List ℕ)) → all_unlabelled ts ≡ all_unlabelled (all_renamed ν label_of us) → HaveBlockNames ts → AreIdentifiers bs → HaveEdges bs ts
+    trees_spelt : (ts : Entities (List ℕ)) (us : Entities ℕ) (bs : List (List ℕ)) → all_unlabelled ts ≡ all_unlabelled (all_renamed ν label_of us) → HaveBlockNames us ts → AreIdentifiers bs → HaveEdges bs ts
         → AreSpelt ts
     trees_spelt no_entity us bs e n b edges = tt
     trees_spelt (an_entity t ts) no_entity bs e n b edges = absurd (cc)
@@ -89,5 +92,5 @@ module _ (number : ℕ → ℕ) (small : (n : ℕ) → number n < 2 ^ 64) (label
         (tree_spelt t u bs first n.0 b edges.0, trees_spelt ts us bs rest n.1 b edges.1)
 
   -- The label of an edge is the name of a block: it is looked up in the region.
-  pub printed_spelt : (t : Entity (List ℕ)) (u : Entity ℕ) → unlabelled t ≡ unlabelled (renamed ν label_of u) → HasBlockNames t → HasEdges [] t → IsSpelt t
+  pub printed_spelt : (t : Entity (List ℕ)) (u : Entity ℕ) → unlabelled t ≡ unlabelled (renamed ν label_of u) → HasBlockNames u t → HasEdges [] t → IsSpelt t
   printed_spelt t u e n edges = tree_spelt t u [] e n tt edges

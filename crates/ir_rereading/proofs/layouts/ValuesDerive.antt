@@ -1,25 +1,26 @@
 -- What types, attributes and operations say derives from the formats' grammar.
 use Rattle.std.proofs.Common.{◌≡◌, ℕ, zero, suc, List, [], ◌∷◌, ◌++◌, Some, Bool, true, false, ◌&&◌, codes, slice_get, refl, sym, subst, ap, ◌∙◌, inl, inr}
 use Rattle.std.specs.List.{list_all}
-use Rattle.ir_names.specs.Text.{is_identifier}
 use Rattle.ir_names.specs.Tree.{node, no_tree, a_tree}
 use Rattle.ir_print.specs.Formats as step
-use Rattle.ir_print.specs.Formats.{Formats, Kind, Step, Steps, no_steps}
-use Rattle.ir_print.specs.Layout.{a_word}
-use Rattle.ir_print.specs.Pieces.{type_of_kind, attribute_of_kind, list, item, operands, successor, region, name, number, width, ValueTree, Pieces, Values}
-use Rattle.ir_print.specs.Shapes.{parts_in, TakesName, TakesOperands, Fits, FitAll, FitMembers, FitsMember}
+use Rattle.ir_print.specs.Formats.{Formats, Kind, Step, Steps, no_steps, kinds_of}
+use Rattle.ir_print.specs.Layout.{a_word, leaf_text}
+use Rattle.ir_print.specs.Pieces.{value_of_kind, list, item, operands, successor, region, Leaf, leaf, name, number, width, ValueTree, Pieces, Values}
+use Rattle.ir_print.specs.Shapes.{parts_in, sort_of, TakesLeaf, IsInRange, TakesOperands, Fits, FitAll, FitMembers, FitsMember}
 use Rattle.ir_grammar.specs.declared.grammar.Action.TheVariants as act
 use Rattle.ir_grammar.specs.declared.grammar.Symbol.{Symbol}
 use Rattle.ir_grammar.specs.declared.grammar.Symbol.TheVariants.{Part, Act}
 use Rattle.ir_grammar.specs.declared.grammar.Grammar.{Grammar}
 use Rattle.ir_formats.specs.declared.rules.Sort.TheVariants as sort
-use Rattle.ir_formats.specs.Rules.{IsGrammarOf, up, sign, several, words_of, steps_made, rules_of}
+use Rattle.ir_formats.specs.Rules.{IsGrammarOf, up, sign, value_part, leaf_sign, several, words_of, steps_made, rules_of}
 use Rattle.ir_rereading.specs.Outer.{is_value_step, are_value_steps, is_plain_step, are_plain_steps, has_outer_operands}
-use Rattle.ir_rereading.proofs.layouts.Marks.{Mark, word, did, members_on, more_members_on, piece_on, parts_on}
+use Rattle.ir_rereading.proofs.layouts.Marks.{Mark, token, word, did, kind_on, members_on, more_members_on, piece_on, parts_on}
 use Rattle.ir_rereading.proofs.layouts.Among.{IsAmong, AreAmong, among_front, among_back}
 use Rattle.ir_rereading.proofs.layouts.PlainWords.{Tested}
 use Rattle.ir_rereading.proofs.layouts.PlainKinds.{name_accepted, width_accepted, number_accepted}
 use Rattle.ir_rereading.proofs.layouts.MarkSteps.{DerivesMarks, shift, acted, regroup, expand, Placed, AllPlaced, IsReadAt, AreReadAt, took, took_word, format_reads, kind_reads}
+use Rattle.ir_print.specs.declared.format.ValueSort.{ValueSort}
+use Rattle.ir_print.specs.declared.format.ValueSort.TheVariants as sorts
 use Rattle.ir_formats.proofs.Booleans.{both_hold}
 
 -- ---- steps that say no operands, no edges and no regions
@@ -58,8 +59,7 @@ IsInner _ = Unit {0}
 
 -- what is tested of the formats of types and attributes
 pub record Outer (f : Formats) : Type 0 where
-  pub types : (n : ℕ) (k : Kind) → slice_get f.types n ≡ Some k → AllPass is_value_step (parts_in k.format)
-  pub attributes : (n : ℕ) (k : Kind) → slice_get f.attributes n ≡ Some k → AllPass is_value_step (parts_in k.format)
+  pub values : (sort : ValueSort) (n : ℕ) (k : Kind) → slice_get (kinds_of f sort) n ≡ Some k → AllPass is_value_step (parts_in k.format)
   pub operations : (n : ℕ) (k : Kind) → slice_get f.operations n ≡ Some k → AllPass is_plain_step (parts_in k.format)
 
 tested_at : (p : Kind → Bool) (ks : List Kind) (n : ℕ) (k : Kind) → list_all p ks ≡ true → slice_get ks n ≡ Some k → p k ≡ true
@@ -72,12 +72,16 @@ three_tests true true c h = (refl, refl, h)
 three_tests true false c h = cc
 three_tests false b c h = cc
 
+by_sort : (P : ValueSort → Type 0) → P sorts.«Type» → P sorts.Attribute → (sort : ValueSort) → P sort
+by_sort P types attributes sorts.«Type» = types
+by_sort P types attributes sorts.Attribute = attributes
+
 pub outer : (f : Formats) → has_outer_operands f ≡ true → Outer f
 outer f h =
     let t = three_tests (list_all (λ k. are_plain_steps k.format) f.operations) (list_all (λ k. are_value_steps k.format) f.types) (list_all (λ k. are_value_steps k.format) f.attributes) h in
+    let tests : (sort : ValueSort) → list_all (λ k. are_value_steps k.format) (kinds_of f sort) ≡ true = λ sort. by_sort (λ sort. list_all (λ k. are_value_steps k.format) (kinds_of f sort) ≡ true) t.1 t.2 sort in
     record {
-      types = λ n k e. values_in k.format (tested_at (λ x. are_value_steps x.format) f.types n k t.1 e);
-      attributes = λ n k e. values_in k.format (tested_at (λ x. are_value_steps x.format) f.attributes n k t.2 e);
+      values = λ sort n k e. values_in k.format (tested_at (λ x. are_value_steps x.format) (kinds_of f sort) n k (tests sort) e);
       operations = λ n k e. plain_in k.format (tested_at (λ x. are_plain_steps x.format) f.operations n k t.0 e);
     }
 
@@ -108,11 +112,26 @@ module _ (g : Grammar) (f : Formats) (known : IsGrammarOf f g) (t : Tested f) wh
   -- ---- values
 
   module _ (v : Values) (o : Outer f) where
-    name_read : (s : Step) (cs : List ℕ) → TakesName s → is_identifier cs ≡ true → IsReadAt g f s (Some (piece_on f (node (name cs) no_tree)))
-    name_read step.a_name cs h e = record { reads = λ n ss ms placed d. shift (name_accepted g f known.signs t cs e) (acted d) }
-    name_read step.symbol_name cs h e =
-        record { reads = λ n ss ms placed d. took g f known t (codes "@") _ _ (placed.words.among (codes "@") (inl refl)) (shift (name_accepted g f known.signs t cs e) (acted d)) }
-    name_read _ cs h e = absurd h
+    -- a leaf stands for the sign of its sort
+    leaf_taken : (x : Leaf) (ss : List Symbol) (ms : List Mark) → IsInRange x → DerivesMarks g f ss ms → DerivesMarks g f (leaf_sign (sort_of x) ∷ ss) (token (leaf_text x) ∷ ms)
+    leaf_taken (name cs) ss ms e d = shift (name_accepted g f known.signs t cs e) d
+    leaf_taken (number negative magnitude) ss ms e d = shift (number_accepted g f known.signs t negative magnitude e) d
+    leaf_taken (width sign bits) ss ms e d = shift (width_accepted g f known.signs t sign bits e) d
+
+    leaf_read : (s : Step) (x : Leaf) (ts : Pieces) → TakesLeaf s (sort_of x) → IsInRange x → IsReadAt g f s (Some (piece_on f (node (leaf x) ts)))
+    leaf_read (step.a_leaf sort) x ts h e =
+        subst (λ z. IsReadAt g f (step.a_leaf z) (Some (piece_on f (node (leaf x) ts)))) (sym h) (record { reads = λ n ss ms placed d. leaf_taken x _ _ e (acted d) })
+    leaf_read step.symbol_name x ts h e = record {
+      reads = λ n ss ms placed d. took g f known t (codes "@") _ _ (placed.words.among (codes "@") (inl refl))
+          (subst (λ z. DerivesMarks g f (leaf_sign z ∷ Act (act.Leaf z) ∷ ss) (token (leaf_text x) ∷ did (act.Leaf (sort_of x)) ∷ ms)) (sym h) (leaf_taken x _ _ e (acted d)));
+    }
+    leaf_read _ x ts h e = absurd h
+
+    -- a value derives from the part of its sort
+    value_reads : (sort : ValueSort) (n : ℕ) (k : Kind) (ts : Pieces) (ss : List Symbol) (ms : List Mark) → slice_get (kinds_of f sort) n ≡ Some k → AreReadAt g f (parts_in k.format) (parts_on f ts) → DerivesMarks g f ss ms
+        → DerivesMarks g f (Part (value_part sort) ∷ ss) (kind_on (slice_get (kinds_of f sort) n) (act.Begin sort n) (act.End sort) (parts_on f ts) ms)
+    value_reads sorts.«Type» n k ts ss ms e r d = kind_reads g f known t sort.«Type» n (slice_get f.types n) k (parts_on f ts) ss ms e e r d
+    value_reads sorts.Attribute n k ts ss ms e r d = kind_reads g f known t sort.Attribute n (slice_get f.attributes n) k (parts_on f ts) ss ms e e r d
 
     list_several : (member : Steps) (printed text : List ℕ) (n : ℕ) → Placed f (step.list_of member printed text) n
         → HasSeveral f n text (Act act.BeginItem ∷ ((steps_made (words_of f) member (up n 2)).symbols ++ Act act.EndItem ∷ [])) × AllPlaced f member (up n 2)
@@ -126,14 +145,10 @@ module _ (g : Grammar) (f : Formats) (known : IsGrammarOf f g) (t : Tested f) wh
     mutual
       -- a piece derives from its step
       pub piece_read : (p : ValueTree) (s : Step) → Fits f v s p → is_plain_step s ≡ true → IsInner p → IsReadAt g f s (Some (piece_on f p))
-      piece_read (node (type_of_kind n) ts) s h plain inner =
+      piece_read (node (value_of_kind sort n) ts) s h plain inner =
           let k = h.1 in
-          subst (λ x. IsReadAt g f x (Some (piece_on f (node (type_of_kind n) ts)))) (sym h.0)
-          (record { reads = λ m ss ms placed d. kind_reads g f known t sort.«Type» n (slice_get f.types n) k (parts_on f ts) ss ms h.2 h.2 (parts_read ts (parts_in k.format) h.3 (o.types n k h.2)) d })
-      piece_read (node (attribute_of_kind n) ts) s h plain inner =
-          let k = h.1 in
-          subst (λ x. IsReadAt g f x (Some (piece_on f (node (attribute_of_kind n) ts)))) (sym h.0)
-          (record { reads = λ m ss ms placed d. kind_reads g f known t sort.Attribute n (slice_get f.attributes n) k (parts_on f ts) ss ms h.2 h.2 (parts_read ts (parts_in k.format) h.3 (o.attributes n k h.2)) d })
+          subst (λ x. IsReadAt g f x (Some (piece_on f (node (value_of_kind sort n) ts)))) (sym h.0)
+          (record { reads = λ m ss ms placed d. value_reads sort n k ts ss ms h.2 (parts_read ts (parts_in k.format) h.3 (o.values sort n k h.2)) d })
       piece_read (node list ts) (step.list_of member printed text) h plain inner =
           record {
             reads = λ n ss ms placed d.
@@ -145,12 +160,7 @@ module _ (g : Grammar) (f : Formats) (known : IsGrammarOf f g) (t : Tested f) wh
       piece_read (node (operands n) ts) s h plain inner = absurd inner
       piece_read (node (successor n) ts) s h plain inner = absurd inner
       piece_read (node region ts) s h plain inner = absurd inner
-      piece_read (node (name cs) ts) s h plain inner = name_read s cs h.0 h.1
-      piece_read (node (number negative magnitude) ts) s h plain inner =
-          subst (λ x. IsReadAt g f x (Some (piece_on f (node (number negative magnitude) ts)))) (sym h.0)
-          (record { reads = λ n ss ms placed d. shift (number_accepted g f known.signs t negative magnitude h.1) (acted d) })
-      piece_read (node (width sign bits) ts) s h plain inner =
-          subst (λ x. IsReadAt g f x (Some (piece_on f (node (width sign bits) ts)))) (sym h.0) (record { reads = λ n ss ms placed d. shift (width_accepted g f known.signs t sign bits h.1) (acted d) })
+      piece_read (node (leaf x) ts) s h plain inner = leaf_read s x ts h.0 h.1
 
       parts_read : (ps : Pieces) (fs : List Step) → FitAll f v fs ps → AllPass is_value_step fs → AreReadAt g f fs (parts_on f ps)
       parts_read no_tree [] h values = tt

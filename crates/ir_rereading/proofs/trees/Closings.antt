@@ -3,16 +3,18 @@ use Rattle.std.proofs.Common.{◌≡◌, ℕ, suc, ◌+◌, nat_eq, Bool, true, 
 use Rattle.std.proofs.lemmas.Bool.{cases_eq}
 use Rattle.std.proofs.lemmas.Bool.Decides.{nat_tests}
 use Rattle.ir_grammar.specs.declared.grammar.Action.{Action}
-use Rattle.ir_grammar.specs.declared.grammar.Action.TheVariants.{Result, Operation, EndOperation, BeginRegion, EndRegion}
+use Rattle.ir_grammar.specs.declared.grammar.Action.TheVariants.{Result, Operation, EndOperation, BeginRegion, EndRegion, Begin, End}
 use Rattle.ir_grammar.specs.declared.grammar.Event.{Event}
 use Rattle.ir_grammar.specs.declared.grammar.Event.TheVariants.{Took, Did}
 use Rattle.ir_scopes.specs.declared.sites.Closing.{Closing}
 use Rattle.ir_scopes.specs.declared.sites.Frame.{Frame}
 use Rattle.ir_scopes.specs.declared.sites.Site.{Site}
-use Rattle.ir_grammar.specs.Nesting.{Position, at_root, behind_root_results, at_end, in_operation, in_operands, in_successor, in_region, in_header, in_argument, in_block, behind_results, in_type, in_attribute, in_list, in_item, Move, goes_to, goes_in, goes_out, nowhere, move, NestsBy}
+use Rattle.ir_grammar.specs.Nesting.{Position, at_root, behind_root_results, at_end, in_operation, in_operands, in_successor, in_region, in_header, in_argument, in_block, behind_results, in_value, in_list, in_item, Move, goes_to, goes_in, goes_out, nowhere, end_move, move, NestsBy}
 use Rattle.ir_forest.specs.Progress.{Leads}
 use Rattle.ir_scopes.specs.Scopes.{EventPlace, beginning, behind, rest, here_behind_operation, here_behind_region, mentioned, label_mentioned, ended, each, mentions, closings, label_mentions, label_closings}
 use Rattle.ir_scopes.proofs.Apart.{get_append}
+use Rattle.ir_print.specs.declared.format.ValueSort.{ValueSort}
+use Rattle.ir_print.specs.declared.format.ValueSort.TheVariants as sorts
 use Rattle.ir_scopes.proofs.ScopeFronts.{IsMadeHere, mentioned_at, label_mentioned_at, IsScopePart, values_part, labels_part, IsOrdered, ordered_next, end, ends}
 
 none : {X : Type 0} {A : Type 0} (s : X) → None ≡ Some s → A
@@ -94,6 +96,13 @@ is_neutral p (goes_in inner next) = same (inside inner) parts && same (inside ne
 is_neutral p goes_out = same (inside p) parts
 is_neutral p nowhere = true
 
+neutral_end : (sort s : ValueSort) → is_neutral (in_value sort) (end_move sort s) ≡ true
+unfolding same is_neutral
+neutral_end sorts.«Type» sorts.«Type» = refl
+neutral_end sorts.«Type» sorts.Attribute = refl
+neutral_end sorts.Attribute sorts.«Type» = refl
+neutral_end sorts.Attribute sorts.Attribute = refl
+
 neutral : (a : Action) (p : Position) → changes a ≡ false → is_neutral p (move p a) ≡ true
 unfolding same changes is_neutral
 neutral (Operation n) p h = wrong_change h
@@ -108,11 +117,12 @@ neutral _ in_operands h = refl
 neutral _ in_successor h = refl
 neutral _ in_region h = refl
 neutral _ in_header h = refl
+neutral (Begin sorts.«Type» kind) in_argument h = refl
 neutral _ in_argument h = refl
 neutral _ in_block h = refl
 neutral _ behind_results h = refl
-neutral _ in_type h = refl
-neutral _ in_attribute h = refl
+neutral (End s) (in_value sort) h = neutral_end sort s
+neutral _ (in_value sort) h = refl
 neutral _ in_list h = refl
 neutral _ in_item h = refl
 

@@ -9,7 +9,8 @@ use Rattle.ir_print.specs.Shown.{Pairs, successors_said}
 use Rattle.ir_forest.specs.Meaning.{renamed}
 use Rattle.ir_forest.specs.Language.{Language}
 use Rattle.ir_forest.specs.Bare.{IsBareTree}
-use Rattle.ir_forest.specs.Closed.{AreIn, head_defines, head_mentions, is_isolated_head, in_scope, defined_by, all_defined, mentioned_by, all_mentioned, IsScope, IsScoped, AreScoped, IsScopedRoot, IsLabelled, head_goes_on, blocks_within, HasEdges, HaveEdges, unlabelled, regions_said, number_in, IsOperation, AreRegions, IsRegion, AreBlocks, IsBlock, AreOperations, FitsHead, FitsTree, FitTrees, IsClosedTree}
+use Rattle.ir_forest.specs.Closed.{AreIn, head_defines, head_mentions, is_isolated_head, in_scope, defined_by, all_defined, mentioned_by, all_mentioned, IsScope, IsScoped, AreScoped, IsScopedRoot, head_goes_on, blocks_within, HasEdges, HaveEdges, unlabelled, regions_said, number_in, IsOperation, AreRegions, IsRegion, AreBlocks, IsBlock, AreOperations, FitsHead, FitsTree, FitTrees, IsClosedTree}
+use Rattle.ir_print.specs.declared.format.ValueSort.TheVariants as sorts
 use Rattle.ir_rereading.proofs.trees.TreeAlike.{AlikeTyped, AlikeHead, Alike, AllAlike, pairs_append, pairs_length, pairs_first, pairs_second, alike_flip, alike_from, head_names, head_blocks, alike_among}
 
 module _ {M N : Type 0} (R S : M → N → Type 0) where
@@ -78,7 +79,7 @@ module _ {M N : Type 0} (R S : M → N → Type 0) where
   module _ (f : Formats) (v : Values) where
     fit_arguments : (xs : List (M × ValueTree)) (ys : List (N × ValueTree)) → Pairs (AlikeTyped R) xs ys → FitArguments f v xs → FitArguments f v ys
     fit_arguments [] [] a h = tt
-    fit_arguments (x ∷ xs) (y ∷ ys) a h = (subst (λ z. Fits f v step.a_type z) a.0.1 h.0, fit_arguments xs ys a.1 h.1)
+    fit_arguments (x ∷ xs) (y ∷ ys) a h = (subst (λ z. Fits f v (step.a_value sorts.«Type») z) a.0.1 h.0, fit_arguments xs ys a.1 h.1)
     fit_arguments [] (y ∷ ys) a h = absurd a
     fit_arguments (x ∷ xs) [] a h = absurd a
 
@@ -260,24 +261,23 @@ module _ {M N : Type 0} (R S : M → N → Type 0) where
       all_edges_alike no_entity (an_entity u us) a bs cs p e = absurd a
       all_edges_alike (an_entity t ts) no_entity a bs cs p e = absurd a
 
--- A tree with labels of its own is closed where one is closed that is alike, and each name of which goes with one name.
+-- A tree is closed where one is closed that is alike, and each name of which goes with one name.
 pub closed_alike : {M N : Type 0} (R S : M → N → Type 0) → ((x : M) (y z : N) → R x y → R x z → y ≡ z)
     → ((x : M) (y z : N) → S x y → S x z → y ≡ z) → (l : Language) (t : Entity M) (u : Entity N)
-    → Alike R S t u → IsClosedTree l t → IsLabelled u → IsBareTree u → IsClosedTree l u
-closed_alike R S one sole l t u a c labelled bare = record {
+    → Alike R S t u → IsClosedTree l t → IsBareTree u → IsClosedTree l u
+closed_alike R S one sole l t u a c bare = record {
   operation = operation_alike R S l.values t u a c.operation;
   fits = fits_alike R S l.formats l.values t u a c.fits;
   scoped = scoped_root_alike R S l.isolated one t u a c.scoped;
   edges = edges_alike R S sole t u a [] [] tt c.edges;
   shallow = shallow_alike R S t u a 64 c.shallow;
-  labelled = labelled;
   bare = bare;
 }
 
 -- A tree with other names and labels is closed.
 pub closed_renamed : {X N : Type 0} (ν μ : N → X) (l : Language) (t : Entity N) (p : Entity X) → IsClosedTree l t
-    → unlabelled p ≡ unlabelled (renamed ν μ t) → IsLabelled p → IsBareTree p
+    → unlabelled p ≡ unlabelled (renamed ν μ t) → IsBareTree p
     → IsClosedTree l p
-closed_renamed {X = X} {N = N} ν μ l t p c e labelled bare =
+closed_renamed {X = X} {N = N} ν μ l t p c e bare =
     closed_alike (λ n x. x ≡ ν n) (λ n x. x ≡ μ n) (λ n x y d f. d ∙ sym f) (λ n x y d f. d ∙ sym f) l t p
-    (alike_flip (λ x n. x ≡ ν n) (λ x n. x ≡ μ n) p t (alike_from ν μ p t e)) c labelled bare
+    (alike_flip (λ x n. x ≡ ν n) (λ x n. x ≡ μ n) p t (alike_from ν μ p t e)) c bare

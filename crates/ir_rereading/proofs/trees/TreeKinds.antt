@@ -3,10 +3,12 @@ use Rattle.std.proofs.Common.{◌≡◌, ℕ, true, false, List, [], ◌∷◌, 
 use Rattle.std.proofs.lemmas.List.{append_assoc, append-nil}
 use Rattle.ir_names.specs.Tree.{Trees, node, no_tree, a_tree}
 use Rattle.ir_grammar.specs.declared.grammar.Action.{Action}
-use Rattle.ir_grammar.specs.declared.grammar.Action.TheVariants.{Result, Operation, EndOperation, BeginRegion, EndRegion, Label, Argument, Header, BeginType, EndType, BeginAttribute, EndAttribute, Name, Number, Width, BeginOperands, Operand, BeginSuccessor, BeginList, BeginItem, EndItem}
+use Rattle.ir_grammar.specs.declared.grammar.Action.TheVariants.{Result, Operation, EndOperation, BeginRegion, EndRegion, Label, Argument, Header, Begin, End, Leaf, BeginOperands, Operand, BeginSuccessor, BeginList, BeginItem, EndItem}
 use Rattle.ir_grammar.specs.declared.grammar.Event.{Event}
 use Rattle.ir_forest.specs.Forest.{end_of, is_end, Deed, deeds, ActionSpan, ending, deeds_in, IsWholeStep, AreWhole, IsForestOf}
-use Rattle.ir_grammar.specs.Nesting.{Position, at_root, behind_root_results, at_end, in_operation, in_operands, in_successor, in_region, in_header, in_argument, in_block, behind_results, in_type, in_attribute, in_list, in_item, Move, goes_to, goes_in, goes_out, nowhere, move, Nests, NestsBy}
+use Rattle.ir_grammar.specs.Nesting.{Position, at_root, behind_root_results, at_end, in_operation, in_operands, in_successor, in_region, in_header, in_argument, in_block, behind_results, in_value, in_list, in_item, Move, goes_to, goes_in, goes_out, nowhere, end_move, move, Nests, NestsBy}
+use Rattle.ir_print.specs.declared.format.ValueSort.{ValueSort}
+use Rattle.ir_print.specs.declared.format.ValueSort.TheVariants as sorts
 use Rattle.ir_forest.proofs.BuiltSteps.{alone, opening, closing, sort_of, EndsBy, ends_by, end_sort, Says, says, Follows, nests_deeds}
 
 -- What stands side by side: what an operation, a region or a block says, or pieces, among which no region and no edge begins.
@@ -51,8 +53,7 @@ content_at in_header = of_block
 content_at in_argument = of_block
 content_at in_block = of_block
 content_at behind_results = of_block
-content_at in_type = of_pieces
-content_at in_attribute = of_pieces
+content_at (in_value sort) = of_pieces
 content_at in_list = of_pieces
 content_at in_item = of_pieces
 
@@ -79,41 +80,28 @@ operation_keeps EndOperation = tt
 operation_keeps BeginRegion = (refl, refl)
 operation_keeps BeginOperands = (refl, refl)
 operation_keeps BeginSuccessor = (refl, refl)
-operation_keeps Name = (refl, refl)
-operation_keeps Number = (refl, refl)
-operation_keeps Width = (refl, refl)
-operation_keeps (BeginType kind) = (refl, refl)
-operation_keeps (BeginAttribute kind) = (refl, refl)
+operation_keeps (Leaf sort) = (refl, refl)
+operation_keeps (Begin sort kind) = (refl, refl)
 operation_keeps BeginList = (refl, refl)
 operation_keeps _ = tt
 
-type_keeps : (a : Action) → Keeps in_type a (move in_type a)
-type_keeps EndType = tt
-type_keeps Name = (refl, refl)
-type_keeps Number = (refl, refl)
-type_keeps Width = (refl, refl)
-type_keeps (BeginType kind) = (refl, refl)
-type_keeps (BeginAttribute kind) = (refl, refl)
-type_keeps BeginList = (refl, refl)
-type_keeps _ = tt
+end_keeps : (sort s : ValueSort) → Keeps (in_value sort) (End s) (end_move sort s)
+end_keeps sorts.«Type» sorts.«Type» = tt
+end_keeps sorts.«Type» sorts.Attribute = tt
+end_keeps sorts.Attribute sorts.«Type» = tt
+end_keeps sorts.Attribute sorts.Attribute = tt
 
-attribute_keeps : (a : Action) → Keeps in_attribute a (move in_attribute a)
-attribute_keeps EndAttribute = tt
-attribute_keeps Name = (refl, refl)
-attribute_keeps Number = (refl, refl)
-attribute_keeps Width = (refl, refl)
-attribute_keeps (BeginType kind) = (refl, refl)
-attribute_keeps (BeginAttribute kind) = (refl, refl)
-attribute_keeps BeginList = (refl, refl)
-attribute_keeps _ = tt
+value_keeps : (sort : ValueSort) (a : Action) → Keeps (in_value sort) a (move (in_value sort) a)
+value_keeps sort (End s) = end_keeps sort s
+value_keeps sort (Leaf s) = (refl, refl)
+value_keeps sort (Begin s kind) = (refl, refl)
+value_keeps sort BeginList = (refl, refl)
+value_keeps sort _ = tt
 
 item_keeps : (a : Action) → Keeps in_item a (move in_item a)
 item_keeps EndItem = tt
-item_keeps Name = (refl, refl)
-item_keeps Number = (refl, refl)
-item_keeps Width = (refl, refl)
-item_keeps (BeginType kind) = (refl, refl)
-item_keeps (BeginAttribute kind) = (refl, refl)
+item_keeps (Leaf sort) = (refl, refl)
+item_keeps (Begin sort kind) = (refl, refl)
 item_keeps BeginList = (refl, refl)
 item_keeps _ = tt
 
@@ -139,7 +127,7 @@ header_keeps Header = (refl, refl)
 header_keeps _ = tt
 
 argument_keeps : (a : Action) → Keeps in_argument a (move in_argument a)
-argument_keeps (BeginType kind) = (refl, refl)
+argument_keeps (Begin sorts.«Type» kind) = (refl, refl)
 argument_keeps _ = tt
 
 block_keeps : (a : Action) → Keeps in_block a (move in_block a)
@@ -174,8 +162,7 @@ keeps in_header a = header_keeps a
 keeps in_argument a = argument_keeps a
 keeps in_block a = block_keeps a
 keeps behind_results a = results_keeps a
-keeps in_type a = type_keeps a
-keeps in_attribute a = attribute_keeps a
+keeps (in_value sort) a = value_keeps sort a
 keeps in_list a = list_keeps a
 keeps in_item a = item_keeps a
 

@@ -9,7 +9,7 @@ use Rattle.ir_forest.specs.Closed.{AllDistinct, label_in, labels_of, IsLabelled,
 use Rattle.ir_forest.specs.Forest.{ActionSpan, IsForestOf}
 use Rattle.ir_forest.specs.Meaning.{operations_in, renamed_head, renamed, all_renamed}
 use Rattle.ir_grammar.specs.Nesting.{Nests, at_root}
-use Rattle.ir_scopes.specs.Scopes.{labels, label_mentions, name_of, IsAgain, fault_again}
+use Rattle.ir_scopes.specs.Scopes.{labels, label_mentions, name_of, IsAgain}
 use Rattle.ir_rereading.proofs.trees.TreeSites.{In, in_left, in_right, in_either, in_none}
 use Rattle.ir_rereading.proofs.trees.TreeRegions.{label_at, OfOperations, OfRegions, OfBlocks, labels_of_tree}
 
@@ -19,20 +19,11 @@ pub first_or_more : {X : Type 0} (x y : X) (xs : List X) → In x (y ∷ xs) →
 first_or_more x y xs (zero, h) = inl (let same : y ≡ x = cc in same)
 first_or_more x y xs (suc i, h) = inr (i, h)
 
-distinct_with : {X : Type 0} (y : X) (xs : List X) → (In y xs → ⊥) → AllDistinct xs → AllDistinct (y ∷ xs)
-distinct_with y xs new d zero zero x h k = refl
-distinct_with y xs new d zero (suc j) x h k = let same : y ≡ x = cc in absurd (new (j, k ∙ ap (λ z. Some z) (sym same)))
-distinct_with y xs new d (suc i) zero x h k = let same : y ≡ x = cc in absurd (new (i, h ∙ ap (λ z. Some z) (sym same)))
-distinct_with y xs new d (suc i) (suc j) x h k = ap suc (d i j x h k)
-
 distinct_more : {X : Type 0} (y : X) (xs : List X) → AllDistinct (y ∷ xs) → AllDistinct xs
 distinct_more y xs d i j x h k = let e = d (suc i) (suc j) x h k in omega arith
 
 distinct_new : {X : Type 0} (y : X) (xs : List X) → AllDistinct (y ∷ xs) → In y xs → ⊥
 distinct_new y xs d h = let e = d 0 (suc h.0) y refl h.1 in omega arith
-
-none_distinct : {X : Type 0} (xs : List X) → xs ≡ [] → AllDistinct xs
-none_distinct xs e i j x h k = let wrong : None ≡ Some x = sym (ap (λ ys. slice_get ys i) e) ∙ h in cc
 
 -- ---- sites of which no two have one name in one scope
 
@@ -55,17 +46,6 @@ module _ (names : List ℕ) where
   -- so no name comes again
   apart_never : (ss : List Site) → AllApart ss → (f : Fault) → IsAgain names ss f → ⊥
   apart_never ss a f h = apart_at ss a h.0 h.1 h.5.0 h.2 h.3 h.5.1 h.4 (sym h.5.2.0, sym h.5.2.1)
-
-  never_more : (s : Site) (ss : List Site) → ((f : Fault) → IsAgain names (s ∷ ss) f → ⊥) → (f : Fault) → IsAgain names ss f → ⊥
-  never_more s ss never f h = never f (suc h.0, suc h.1, h.2, (let lt = h.3 in omega arith), h.4, (h.5.0, h.5.1, h.5.2), h.6)
-
-  never_apart : (ss : List Site) → ((f : Fault) → IsAgain names ss f → ⊥) → AllApart ss
-  never_apart [] never = tt
-  never_apart (s ∷ ss) never = ((λ t i same. never (fault_again t.token) (0, suc i.0, t, omega arith, i.1, (s, refl, (sym same.0, sym same.1)), refl)), never_apart ss (never_more s ss never))
-
-  split_apart : (xs ys : List Site) → AllApart (xs ++ ys) → AllApart xs × AllApart ys
-  split_apart [] ys a = (tt, a)
-  split_apart (x ∷ xs) ys a = let r = split_apart xs ys a.1 in (((λ t i same. a.0 t (in_left t xs ys i) same), r.0), r.1)
 
   join_apart : (xs ys : List Site) → AllApart xs → AllApart ys → ((s t : Site) → In s xs → In t ys → t.scope ≡ s.scope → ⊥) → AllApart (xs ++ ys)
   join_apart [] ys a b other = b
@@ -149,33 +129,6 @@ module _ (text : ℕ → List ℕ) where
 
   -- ---- sites and labels of one region
 
-  operations_no_labels : (scope low high : ℕ) (ts : Entities ℕ) (ss ms : List Site) → OfOperations text scope low high ts ss ms → labels_of ts ≡ []
-  operations_no_labels scope low high no_entity ss ms h = refl
-  operations_no_labels scope low high (an_entity (entity (operation kind results used successors pieces) us) ts) ss ms h = operations_no_labels scope h.2 high ts h.4 h.6 h.12
-  operations_no_labels scope low high (an_entity (entity a_region us) ts) ss ms h = absurd h
-  operations_no_labels scope low high (an_entity (entity (block named label arguments) us) ts) ss ms h = absurd h
-
-  regions_no_labels : (low high : ℕ) (ts : Entities ℕ) (ss ms : List Site) → OfRegions text low high ts ss ms → labels_of ts ≡ []
-  regions_no_labels low high no_entity ss ms h = refl
-  regions_no_labels low high (an_entity (entity a_region us) ts) ss ms h = regions_no_labels h.2 high ts h.4 h.6 h.12
-  regions_no_labels low high (an_entity (entity (operation kind results used successors pieces) us) ts) ss ms h = absurd h
-  regions_no_labels low high (an_entity (entity (block named label arguments) us) ts) ss ms h = absurd h
-
-  -- each label has a site
-  label_site : (scope low high : ℕ) (ts : Entities ℕ) (ss ms : List Site) → OfBlocks text scope low high ts ss ms → (x : List ℕ)
-      → In x (labels_of ts) → (s : Site) × In s ss × (s.scope ≡ scope) × (text s.token ≡ x)
-  label_site scope low high no_entity ss ms h x i = in_none x i
-  label_site scope low high (an_entity (entity (block named label arguments) us) ts) ss ms
-      (a, b, c, first, more, held, past, spelled, e, uses, lt, between, here, later) x i =
-      elim (first_or_more x label (labels_of ts) i) [
-        | inl same ↦ (label_at scope named, subst (λ xs. In (label_at scope named) xs) (sym e) (0, refl), refl, sym spelled ∙ same)
-        | inr y ↦ (let r = label_site scope c high ts more past later x y in
-            let there = in_right r.0 first more r.1 in
-            (r.0, subst (λ xs. In r.0 xs) (sym e) (suc there.0, there.1), r.2, r.3))
-      ]
-  label_site scope low high (an_entity (entity a_region us) ts) ss ms h x i = absurd h
-  label_site scope low high (an_entity (entity (operation kind results used successors pieces) us) ts) ss ms h x i = absurd h
-
   -- each site of the region is that of a label
   site_label : (scope low high : ℕ) (ts : Entities ℕ) (ss ms : List Site) → scope ≤ low → OfBlocks text scope low high ts ss ms
       → (s : Site) → In s ss → s.scope ≡ scope → In (text s.token) (labels_of ts)
@@ -193,61 +146,6 @@ module _ (text : ℕ → List ℕ) where
       ]
   site_label scope low high (an_entity (entity a_region us) ts) ss ms le h s i is = absurd h
   site_label scope low high (an_entity (entity (operation kind results used successors pieces) us) ts) ss ms le h s i is = absurd h
-
-  -- ---- from sites to labels
-
-  module _ (names : List ℕ) (all : List Site) (alike : (s t : Site) → In s all → In t all → text s.token ≡ text t.token → name_of names s.token ≡ name_of names t.token) where
-    abbrev Among : List Site → Type 0
-    Among ss = (s : Site) → In s ss → In s all
-
-    among_first : (ss first more : List Site) → ss ≡ first ++ more → Among ss → Among first
-    among_first ss first more e sub s i = sub s (subst (λ xs. In s xs) (sym e) (in_left s first more i))
-
-    among_more : (ss first more : List Site) → ss ≡ first ++ more → Among ss → Among more
-    among_more ss first more e sub s i = sub s (subst (λ xs. In s xs) (sym e) (in_right s first more i))
-
-    mutual
-      operations_labelled : (scope low high : ℕ) (ts : Entities ℕ) (ss ms : List Site) → OfOperations text scope low high ts ss ms
-          → Among ss → AllApart names ss → AreLabelled ts
-      operations_labelled scope low high no_entity ss ms h sub apart = tt
-      operations_labelled scope low high (an_entity (entity (operation kind results used successors pieces) us) ts) ss ms
-          (a, b, c, first, more, held, past, e, uses, le, between, here, later) sub apart =
-          let parts = split_apart names first more (subst (λ xs. AllApart names xs) e apart) in (
-            (none_distinct (labels_of us) (regions_no_labels a b us first held here), regions_labelled a b us first held here (among_first ss first more e sub) parts.0),
-            operations_labelled scope c high ts more past later (among_more ss first more e sub) parts.1,
-          )
-      operations_labelled scope low high (an_entity (entity a_region us) ts) ss ms h sub apart = absurd h
-      operations_labelled scope low high (an_entity (entity (block named label arguments) us) ts) ss ms h sub apart = absurd h
-
-      regions_labelled : (low high : ℕ) (ts : Entities ℕ) (ss ms : List Site) → OfRegions text low high ts ss ms → Among ss
-          → AllApart names ss → AreLabelled ts
-      regions_labelled low high no_entity ss ms h sub apart = tt
-      regions_labelled low high (an_entity (entity a_region us) ts) ss ms
-          (scope, b, c, first, more, held, past, e, uses, le, between, here, later) sub apart =
-          let parts = split_apart names first more (subst (λ xs. AllApart names xs) e apart) in
-          (blocks_labelled scope scope b us first held here (among_first ss first more e sub) parts.0, regions_labelled c high ts more past later (among_more ss first more e sub) parts.1)
-      regions_labelled low high (an_entity (entity (operation kind results used successors pieces) us) ts) ss ms h sub apart = absurd h
-      regions_labelled low high (an_entity (entity (block named label arguments) us) ts) ss ms h sub apart = absurd h
-
-      blocks_labelled : (scope low high : ℕ) (ts : Entities ℕ) (ss ms : List Site) → OfBlocks text scope low high ts ss ms → Among ss
-          → AllApart names ss → AllDistinct (labels_of ts) × AreLabelled ts
-      blocks_labelled scope low high no_entity ss ms h sub apart = (none_distinct [] refl, tt)
-      blocks_labelled scope low high (an_entity (entity (block named label arguments) us) ts) ss ms
-          (a, b, c, first, more, held, past, spelled, e, uses, lt, between, here, later) sub apart =
-          let split : AllApart names (label_at scope named ∷ (first ++ more)) = subst (λ xs. AllApart names xs) e apart in
-          let parts = split_apart names first more split.1 in
-          let inner : Among (first ++ more) = λ s i. sub s (subst (λ xs. In s xs) (sym e) (suc i.0, i.1)) in
-          let rest = blocks_labelled scope c high ts more past later (among_more (first ++ more) first more refl inner) parts.1 in (
-            distinct_with label (labels_of ts) (λ again. (let other = label_site scope c high ts more past later label again in
-                split.0 other.0 (in_right other.0 first more other.1)
-                (other.2, alike other.0 (label_at scope named) (inner other.0 (in_right other.0 first more other.1)) (sub (label_at scope named) (subst (λ xs. In (label_at scope named) xs) (sym e) (0, refl))) (other.3 ∙ spelled)))) rest.0,
-            (
-              (none_distinct (labels_of us) (operations_no_labels scope a b us first held here), operations_labelled scope a b us first held here (among_first (first ++ more) first more refl inner) parts.0),
-              rest.1,
-            ),
-          )
-      blocks_labelled scope low high (an_entity (entity a_region us) ts) ss ms h sub apart = absurd h
-      blocks_labelled scope low high (an_entity (entity (operation kind results used successors pieces) us) ts) ss ms h sub apart = absurd h
 
   -- ---- from labels to sites
 
@@ -318,13 +216,6 @@ module _ (text : ℕ → List ℕ) where
 
 module _ (isolated : ℕ → Bool) (v : Values) (text : ℕ → List ℕ) (names : List ℕ) (es : List Event) (forest : Trees ActionSpan) (tree : Entity ℕ)
     (nests : Nests at_root [] es) (is : IsForestOf es forest) (says : operations_in v text [] forest ≡ an_entity tree no_entity) where
-  -- Where no label of a text comes again in its region, the blocks of each region of its tree have distinct labels.
-  pub tree_labelled : ((i j : ℕ) (s t : Site) → slice_get (labels isolated es) i ≡ Some s → slice_get (labels isolated es) j ≡ Some t → text s.token ≡ text t.token → name_of names s.token ≡ name_of names t.token)
-      → ((f : Fault) → IsAgain names (labels isolated es) f → ⊥) → IsLabelled tree
-  tree_labelled alike never =
-      let r = labels_of_tree isolated v text es forest tree nests is says in
-      (operations_labelled text names (labels isolated es) (λ s t i j e. alike i.0 j.0 s t i.1 j.1 e) 0 0 r.0 (an_entity tree no_entity) (labels isolated es) (label_mentions isolated es) r.1 (λ s i. i) (never_apart names (labels isolated es) never)).0
-
   -- Where the blocks of each region of the tree have distinct labels, no label of the text comes again in its region.
   pub labels_apart : ((i j : ℕ) (s t : Site) → slice_get (labels isolated es) i ≡ Some s → slice_get (labels isolated es) j ≡ Some t → name_of names s.token ≡ name_of names t.token → text s.token ≡ text t.token)
       → IsLabelled tree → (f : Fault) → IsAgain names (labels isolated es) f → ⊥
@@ -347,14 +238,6 @@ module _ {M N : Type 0} (f g : M → N) where
 
   mutual
     -- other names of values and blocks change no labels
-    pub renamed_labelled : (t : Entity M) → IsLabelled t → IsLabelled (renamed f g t)
-    renamed_labelled (entity h ts) l = (subst (λ (xs : List (List ℕ)). AllDistinct xs) (sym (labels_renamed ts)) l.0, all_renamed_labelled ts l.1)
-
-    all_renamed_labelled : (ts : Entities M) → AreLabelled ts → AreLabelled (all_renamed f g ts)
-    all_renamed_labelled no_entity l = tt
-    all_renamed_labelled (an_entity t ts) l = (renamed_labelled t l.0, all_renamed_labelled ts l.1)
-
-  mutual
     pub labelled_renamed : (t : Entity M) → IsLabelled (renamed f g t) → IsLabelled t
     labelled_renamed (entity h ts) l = (subst (λ (xs : List (List ℕ)). AllDistinct xs) (labels_renamed ts) l.0, all_labelled_renamed ts l.1)
 

@@ -11,12 +11,15 @@ use Rattle.ir_forest.specs.Building.{with_name}
 use Rattle.ir_forest.specs.Closed.{AreIn, names_of, all_defined, all_mentioned, all_definitions_of, AreScoped}
 use Rattle.ir_forest.specs.Forest.{end_of, Deed, deeds_from, ActionSpan, ending, deeds_of, deeds_in, IsWholeStep, AreWhole}
 use Rattle.ir_forest.specs.Meaning.{pieces_in, tokens_in, operands_in, arguments_in, typed, operations_in, regions_in, blocks_in, all_renamed}
-use Rattle.ir_grammar.specs.Nesting.{Position, at_root, behind_root_results, at_end, in_operation, in_operands, in_successor, in_region, in_header, in_argument, in_block, behind_results, in_type, in_attribute, in_list, in_item, move, piece_move}
+use Rattle.ir_grammar.specs.Nesting.{Position, at_root, behind_root_results, at_end, in_operation, in_operands, in_successor, in_region, in_header, in_argument, in_block, behind_results, in_value, in_list, in_item, move, end_move, piece_move}
 use Rattle.ir_scopes.specs.Scopes.{EventPlace}
 use Rattle.ir_rereading.proofs.trees.TreeCounts.{CountsAt, Counts}
 use Rattle.ir_rereading.proofs.trees.TreeParts.{IsDeed, one_deed, split_deeds, IsQuiet, Part, part_append, part_change, part_still, part_quiet, part_defines, part_mentions, part_bracket, has_operation, part_operation, part_region, part_scope}
 use Rattle.ir_rereading.proofs.trees.TreePlaces.{IsFinal, PlacedBy, Placed}
 use Rattle.ir_rereading.proofs.trees.TreeRenamed.{all_operands_of, all_mentioned_renamed, all_defined_renamed}
+use Rattle.ir_print.specs.declared.format.LeafSort.TheVariants as leaves
+use Rattle.ir_print.specs.declared.format.ValueSort.{ValueSort}
+use Rattle.ir_print.specs.declared.format.ValueSort.TheVariants as sorts
 use Rattle.ir_rereading.proofs.trees.TreeSites.{In, in_left, in_right, in_either, Alike, arrived, arrived_events, Has, has_append, change}
 
 -- ---- lists
@@ -134,8 +137,7 @@ module _ (isolated : ℕ → Bool) (values : Values) (text : ℕ → List ℕ) {
   Goal in_argument names ts = ArgumentGoal ts
   Goal in_block names ts = BlockGoal names ts
   Goal behind_results names ts = BlockGoal names ts
-  Goal in_type names ts = QuietGoal ts
-  Goal in_attribute names ts = QuietGoal ts
+  Goal (in_value sort) names ts = QuietGoal ts
   Goal in_list names ts = QuietGoal ts
   Goal in_item names ts = QuietGoal ts
 
@@ -162,8 +164,7 @@ module _ (isolated : ℕ → Bool) (values : Values) (text : ℕ → List ℕ) {
   none in_argument names f m = absurd f
   none in_block names f m = λ at es low inside read. ([], [], part_still isolated g at es read, append-nil names ∙ m, append-nil names ∙ m)
   none behind_results names f m = absurd f
-  none in_type names f m = λ at es low read. part_still isolated g at es read
-  none in_attribute names f m = λ at es low read. part_still isolated g at es read
+  none (in_value sort) names f m = λ at es low read. part_still isolated g at es read
   none in_list names f m = λ at es low read. part_still isolated g at es read
   none in_item names f m = λ at es low read. part_still isolated g at es read
 
@@ -246,23 +247,16 @@ module _ (isolated : ℕ → Bool) (values : Values) (text : ℕ → List ℕ) {
   -- a step of a piece, at a position where it is quiet
   piece_quiet : (p : Position) (a : Action) (f l : ℕ) (ts rest : Trees ActionSpan) → PlacedBy (piece_move p a) (λ q. Placed q ts) (λ q. Placed q rest) → IsWholeStep (end_of a) (step_of a f l) ts
       → ((q : Position) → Placed q ts → Goal q [] ts) → (at : EventPlace) (es : List Event) → IsLow at → deeds_from at.tokens es ≡ deeds_of (node (step_of a f l) ts) → Part isolated g at es [] [] [] [] (Unit {0})
-  piece_quiet p act.Name f l ts rest pl w inner at es low read = quiet_leaf at es act.Name f l ts (λ p. (refl, refl, refl, refl)) refl w read
-  piece_quiet p act.Number f l ts rest pl w inner at es low read = quiet_leaf at es act.Number f l ts (λ p. (refl, refl, refl, refl)) refl w read
-  piece_quiet p act.Width f l ts rest pl w inner at es low read = quiet_leaf at es act.Width f l ts (λ p. (refl, refl, refl, refl)) refl w read
-  piece_quiet p (act.BeginType kind) f l ts rest pl w inner at es low read =
-      quiet_node at es (act.BeginType kind) act.EndType f l ts (λ p. (refl, refl, refl, refl)) (λ p. (refl, refl, refl, refl)) refl low (inner in_type pl.0) read
-  piece_quiet p (act.BeginAttribute kind) f l ts rest pl w inner at es low read =
-      quiet_node at es (act.BeginAttribute kind) act.EndAttribute f l ts (λ p. (refl, refl, refl, refl)) (λ p. (refl, refl, refl, refl)) refl low (inner in_attribute pl.0) read
+  piece_quiet p (act.Leaf sort) f l ts rest pl w inner at es low read = quiet_leaf at es (act.Leaf sort) f l ts (λ p. (refl, refl, refl, refl)) refl w read
+  piece_quiet p (act.Begin sort kind) f l ts rest pl w inner at es low read =
+      quiet_node at es (act.Begin sort kind) (act.End sort) f l ts (λ p. (refl, refl, refl, refl)) (λ p. (refl, refl, refl, refl)) refl low (inner (in_value sort) pl.0) read
   piece_quiet p act.BeginList f l ts rest pl w inner at es low read =
       quiet_node at es act.BeginList act.EndList f l ts (λ p. (refl, refl, refl, refl)) (λ p. (refl, refl, refl, refl)) refl low (inner in_list pl.0) read
   piece_quiet p _ f l ts rest pl w inner at es low read = absurd pl
 
   piece_rest : (p : Position) (a : Action) (ts rest : Trees ActionSpan) → PlacedBy (piece_move p a) (λ q. Placed q ts) (λ q. Placed q rest) → Placed p rest
-  piece_rest p act.Name ts rest pl = pl
-  piece_rest p act.Number ts rest pl = pl
-  piece_rest p act.Width ts rest pl = pl
-  piece_rest p (act.BeginType kind) ts rest pl = pl.1
-  piece_rest p (act.BeginAttribute kind) ts rest pl = pl.1
+  piece_rest p (act.Leaf sort) ts rest pl = pl
+  piece_rest p (act.Begin sort kind) ts rest pl = pl.1
   piece_rest p act.BeginList ts rest pl = pl.1
   piece_rest p _ ts rest pl = absurd pl
 
@@ -281,12 +275,9 @@ module _ (isolated : ℕ → Bool) (values : Values) (text : ℕ → List ℕ) {
 
   operation_piece : (a : Action) (f l : ℕ) (ts rest : Trees ActionSpan) → PlacedBy (piece_move in_operation a) (λ q. Placed q ts) (λ q. Placed q rest) → IsWholeStep (end_of a) (step_of a f l) ts
       → Known ts [] → OperationGoal rest → OperationGoal (a_tree (node (step_of a f l) ts) rest)
-  operation_piece act.Name f l ts rest pl w inner more = operation_then act.Name act.Name f l ts rest (piece_quiet in_operation act.Name f l ts rest pl w (quiet_known ts inner)) more
-  operation_piece act.Number f l ts rest pl w inner more = operation_then act.Number act.Name f l ts rest (piece_quiet in_operation act.Number f l ts rest pl w (quiet_known ts inner)) more
-  operation_piece act.Width f l ts rest pl w inner more = operation_then act.Width act.Name f l ts rest (piece_quiet in_operation act.Width f l ts rest pl w (quiet_known ts inner)) more
-  operation_piece (act.BeginType kind) f l ts rest pl w inner more = operation_then (act.BeginType kind) act.Name f l ts rest (piece_quiet in_operation (act.BeginType kind) f l ts rest pl w (quiet_known ts inner)) more
-  operation_piece (act.BeginAttribute kind) f l ts rest pl w inner more = operation_then (act.BeginAttribute kind) act.Name f l ts rest (piece_quiet in_operation (act.BeginAttribute kind) f l ts rest pl w (quiet_known ts inner)) more
-  operation_piece act.BeginList f l ts rest pl w inner more = operation_then act.BeginList act.Name f l ts rest (piece_quiet in_operation act.BeginList f l ts rest pl w (quiet_known ts inner)) more
+  operation_piece (act.Leaf sort) f l ts rest pl w inner more = operation_then (act.Leaf sort) (act.Leaf leaves.Name) f l ts rest (piece_quiet in_operation (act.Leaf sort) f l ts rest pl w (quiet_known ts inner)) more
+  operation_piece (act.Begin sort kind) f l ts rest pl w inner more = operation_then (act.Begin sort kind) (act.Leaf leaves.Name) f l ts rest (piece_quiet in_operation (act.Begin sort kind) f l ts rest pl w (quiet_known ts inner)) more
+  operation_piece act.BeginList f l ts rest pl w inner more = operation_then act.BeginList (act.Leaf leaves.Name) f l ts rest (piece_quiet in_operation act.BeginList f l ts rest pl w (quiet_known ts inner)) more
   operation_piece _ f l ts rest pl w inner more = absurd pl
 
   -- operands, between an action that begins them and one that ends them
@@ -402,15 +393,15 @@ module _ (isolated : ℕ → Bool) (values : Values) (text : ℕ → List ℕ) {
       r.3 (alike_is r.1 (all_defined isolated os) r.4) (alike (all_mentioned isolated os)) (λ k h. h) (λ z. z.1) (λ q. (tt, q))
       (part_append isolated g at c.0 c.1 [] [] [] [] r.0 r.1 (all_mentioned isolated os) (all_operands_of os) (Unit {0}) Q low first r.2))
 
-  type_part : (kind f l : ℕ) (ts rest : Trees ActionSpan) → QuietGoal ts → HeaderGoal rest → ArgumentGoal (a_tree (node (step_of (act.BeginType kind) f l) ts) rest)
+  type_part : (kind f l : ℕ) (ts rest : Trees ActionSpan) → QuietGoal ts → HeaderGoal rest → ArgumentGoal (a_tree (node (step_of (act.Begin sorts.«Type» kind) f l) ts) rest)
   type_part kind f l ts rest inner more named at es low inside read =
-      let t : LabelledTree ActionSpan = node (step_of (act.BeginType kind) f l) ts in
+      let t : LabelledTree ActionSpan = node (step_of (act.Begin sorts.«Type» kind) f l) ts in
       let ns = names_of (arguments_in values text named rest) in
       let os = operations_in values text [] rest in (
         ns ++ all_definitions_of os,
         ns ++ all_defined isolated os,
         beside_quiet at es t rest low read (ns ++ all_definitions_of os) (ns ++ all_defined isolated os) (all_mentioned isolated os) (all_operands_of os) (AreScoped isolated false (all_renamed g g os))
-            (λ e. quiet_node at e (act.BeginType kind) act.EndType f l ts (λ p. (refl, refl, refl, refl)) (λ p. (refl, refl, refl, refl)) refl low inner)
+            (λ e. quiet_node at e (act.Begin sorts.«Type» kind) (act.End sorts.«Type») f l ts (λ p. (refl, refl, refl, refl)) (λ p. (refl, refl, refl, refl)) refl low inner)
             (λ e c here around r. more named (arrived isolated at e) c (low_behind at es t rest low read e here) (inside_behind at es t rest low read e around inside) r),
         refl,
         refl,
@@ -530,11 +521,8 @@ module _ (isolated : ℕ → Bool) (values : Values) (text : ℕ → List ℕ) {
   -- the names behind a piece are none
   piece_names : (p : Position) (a : Action) (f : ℕ) (names : List ℕ) (ts rest : Trees ActionSpan) → PlacedBy (piece_move p a) (λ q. Placed q ts) (λ q. Placed q rest)
       → Counts values text (with_name names a f) rest → Counts values text [] rest
-  piece_names p act.Name f names ts rest pl c = c
-  piece_names p act.Number f names ts rest pl c = c
-  piece_names p act.Width f names ts rest pl c = c
-  piece_names p (act.BeginType kind) f names ts rest pl c = c
-  piece_names p (act.BeginAttribute kind) f names ts rest pl c = c
+  piece_names p (act.Leaf sort) f names ts rest pl c = c
+  piece_names p (act.Begin sort kind) f names ts rest pl c = c
   piece_names p act.BeginList f names ts rest pl c = c
   piece_names p _ f names ts rest pl c = absurd pl
 
@@ -554,15 +542,17 @@ module _ (isolated : ℕ → Bool) (values : Values) (text : ℕ → List ℕ) {
       → CountedStep a f names ts rest → AllKnown ts → QuietGoal rest → QuietGoal (a_tree (node (step_of a f l) ts) rest)
   piece_steps p a names f l ts rest pl w c inner more = quiet_then a a f l ts rest (piece_quiet p a f l ts rest pl w (quiet_known ts (inner_known ts inner c.1))) more
 
-  type_steps : (a : Action) → Steps in_type a
-  type_steps act.EndType names f l ts rest pl w c inner more = absurd pl
-  type_steps a names f l ts rest pl w c inner more =
-      piece_steps in_type a names f l ts rest pl w c inner (more in_type [] (piece_rest in_type a ts rest pl) (piece_names in_type a f names ts rest pl c.2) tt)
+  -- a value is not ended among its own pieces
+  end_placed : (sort s : ValueSort) (P Q : Position → Type 0) → PlacedBy (end_move sort s) P Q → ⊥
+  end_placed sorts.«Type» sorts.«Type» P Q pl = absurd pl
+  end_placed sorts.«Type» sorts.Attribute P Q pl = absurd pl
+  end_placed sorts.Attribute sorts.«Type» P Q pl = absurd pl
+  end_placed sorts.Attribute sorts.Attribute P Q pl = absurd pl
 
-  attribute_steps : (a : Action) → Steps in_attribute a
-  attribute_steps act.EndAttribute names f l ts rest pl w c inner more = absurd pl
-  attribute_steps a names f l ts rest pl w c inner more =
-      piece_steps in_attribute a names f l ts rest pl w c inner (more in_attribute [] (piece_rest in_attribute a ts rest pl) (piece_names in_attribute a f names ts rest pl c.2) tt)
+  value_steps : (sort : ValueSort) (a : Action) → Steps (in_value sort) a
+  value_steps sort (act.End s) names f l ts rest pl w c inner more = absurd (end_placed sort s (λ q. Placed q ts) (λ q. Placed q rest) pl)
+  value_steps sort a names f l ts rest pl w c inner more =
+      piece_steps (in_value sort) a names f l ts rest pl w c inner (more (in_value sort) [] (piece_rest (in_value sort) a ts rest pl) (piece_names (in_value sort) a f names ts rest pl c.2) tt)
 
   item_steps : (a : Action) → Steps in_item a
   item_steps act.EndItem names f l ts rest pl w c inner more = absurd pl
@@ -603,7 +593,7 @@ module _ (isolated : ℕ → Bool) (values : Values) (text : ℕ → List ℕ) {
   header_steps _ names f l ts rest pl w c inner more = absurd pl
 
   argument_steps : (a : Action) → Steps in_argument a
-  argument_steps (act.BeginType kind) names f l ts rest pl w c inner more = type_part kind f l ts rest (inner in_type [] pl.0 c.1 tt) (more in_header [] pl.1 c.2 tt)
+  argument_steps (act.Begin sorts.«Type» kind) names f l ts rest pl w c inner more = type_part kind f l ts rest (inner (in_value sorts.«Type») [] pl.0 c.1 tt) (more in_header [] pl.1 c.2 tt)
   argument_steps _ names f l ts rest pl w c inner more = absurd pl
 
   block_steps : (a : Action) → Steps in_block a
@@ -643,8 +633,7 @@ module _ (isolated : ℕ → Bool) (values : Values) (text : ℕ → List ℕ) {
   steps in_argument a = argument_steps a
   steps in_block a = block_steps a
   steps behind_results a = results_steps a
-  steps in_type a = type_steps a
-  steps in_attribute a = attribute_steps a
+  steps (in_value sort) a = value_steps sort a
   steps in_list a = list_steps a
   steps in_item a = item_steps a
 

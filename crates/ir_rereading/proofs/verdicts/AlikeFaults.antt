@@ -3,7 +3,7 @@ use Rattle.std.proofs.Common.{◌≡◌, ℕ, ◌+◌, ◌-◌, List, [], ◌∷
 use Rattle.ir_names.specs.Tree.{LabelledTree, Trees, node}
 use Rattle.ir_print.specs.Pieces.{Values}
 use Rattle.ir_grammar.specs.declared.grammar.Action.{Action}
-use Rattle.ir_grammar.specs.declared.grammar.Action.TheVariants.{Operation, BeginRegion, Label, BeginType, BeginAttribute, BeginOperands, BeginSuccessor, BeginList, BeginItem}
+use Rattle.ir_grammar.specs.declared.grammar.Action.TheVariants.{Operation, BeginRegion, Label, Begin, BeginOperands, BeginSuccessor, BeginList, BeginItem}
 use Rattle.ir_grammar.specs.declared.grammar.Event.{Event}
 use Rattle.ir_grammar.specs.declared.grammar.Event.TheVariants.{Took, Did}
 use Rattle.ir_grammar.specs.declared.grammar.Stop.{Stop}
@@ -115,8 +115,7 @@ ending_plain : (a : Action) → Plain (end_of a)
 ending_plain (Operation kind) = refl
 ending_plain BeginRegion = refl
 ending_plain Label = refl
-ending_plain (BeginType kind) = refl
-ending_plain (BeginAttribute kind) = refl
+ending_plain (Begin sort kind) = refl
 ending_plain BeginOperands = refl
 ending_plain BeginSuccessor = refl
 ending_plain BeginList = refl

@@ -6,7 +6,7 @@ use Rattle.std.proofs.lemmas.List.{length-take-le}
 use Rattle.ir_names.specs.Tree.{Trees, node}
 use Rattle.ir_print.specs.Pieces.{Values}
 use Rattle.ir_grammar.specs.declared.grammar.Action.{Action}
-use Rattle.ir_grammar.specs.declared.grammar.Action.TheVariants.{BeginRegion, BeginType, BeginAttribute}
+use Rattle.ir_grammar.specs.declared.grammar.Action.TheVariants.{BeginRegion, Begin}
 use Rattle.ir_grammar.specs.declared.grammar.Event.{Event}
 use Rattle.ir_grammar.specs.declared.grammar.Event.TheVariants.{Took, Did}
 use Rattle.ir_grammar.specs.declared.grammar.Grammar.{Grammar}
@@ -114,8 +114,7 @@ module _ (values : Values) (text : ℕ → List ℕ) (a b : List Event) (f : Fau
 
 opens_own : (a : Action) → opens a ≡ true → has_own_token a ≡ true
 opens_own BeginRegion h = refl
-opens_own (BeginType kind) h = refl
-opens_own (BeginAttribute kind) h = refl
+opens_own (Begin sort kind) h = refl
 opens_own _ h = cc
 
 follows_rest : (b : Bool) (fresh : Bool) (es : List Event) → MatchBool b ((fresh ≡ true) × FollowTokens false es) (FollowTokens false es) → FollowTokens false es

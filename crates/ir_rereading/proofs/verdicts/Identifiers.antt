@@ -28,6 +28,7 @@ use Rattle.ir_forest.specs.Language.{Language}
 use Rattle.ir_grammar.proofs.Derivations.{tooks_append}
 use Rattle.ir_formats.proofs.Ordered.{through_front}
 use Rattle.ir_rereading.proofs.verdicts.NameSigns.{keeps_name, BehindNames, AreBehindNames, behind_weaker, behind_append, rules_behind, rule_behind}
+use Rattle.ir_print.specs.declared.format.LeafSort.TheVariants as leaves
 use Rattle.ir_rereading.proofs.verdicts.NameTokens.{name_token, accepted_name}
 
 -- ---- names behind their tokens
@@ -76,7 +77,7 @@ AreNamed names text n [] = Unit {0}
 AreNamed names text n (k ∷ ks) = (names k ≡ true → is_identifier (text n) ≡ true) × AreNamed names text (n + 1) ks
 
 spelt_behind : (a : Action) (cs : List ℕ) → (keeps_name a ≡ true → is_identifier cs ≡ true) → IsSpelt a cs
-spelt_behind act.Name cs h = h refl
+spelt_behind (act.Leaf leaves.Name) cs h = h refl
 spelt_behind act.Label cs h = h refl
 spelt_behind _ cs h = tt
 

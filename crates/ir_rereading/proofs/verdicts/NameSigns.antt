@@ -1,7 +1,7 @@
 -- In the rules of formats each action that keeps a name or names a value or a block comes straight behind the sign of names.
 use Rattle.std.proofs.Common.{◌≡◌, ℕ, zero, suc, ◌==◌, List, [], ◌∷◌, ◌++◌, Some, Bool, true, false, slice_get, refl, subst}
 use Rattle.std.specs.Bool.{MatchBool}
-use Rattle.ir_print.specs.Formats.{Formats, Kind, Step, Steps, word, operands, operand, successor, an_attribute, a_type, a_region, symbol_name, a_name, a_number, a_width, list_of, no_steps, step}
+use Rattle.ir_print.specs.Formats.{Formats, Kind, Step, Steps, word, operands, operand, successor, a_value, a_region, symbol_name, a_leaf, list_of, no_steps, step}
 use Rattle.ir_grammar.specs.declared.grammar.Action.{Action}
 use Rattle.ir_grammar.specs.declared.grammar.Action.TheVariants as act
 use Rattle.ir_grammar.specs.declared.grammar.Symbol.{Symbol}
@@ -9,13 +9,15 @@ use Rattle.ir_grammar.specs.declared.grammar.Symbol.TheVariants.{Sign, Part, Act
 use Rattle.ir_grammar.specs.declared.grammar.Rule.{Rule}
 use Rattle.ir_formats.specs.declared.rules.Sort.{Sort}
 use Rattle.ir_formats.specs.declared.rules.Sort.TheVariants as sort
+use Rattle.ir_print.specs.declared.format.LeafSort.TheVariants as leaves
+use Rattle.ir_print.specs.declared.format.ValueSort.TheVariants as sorts
 use Rattle.ir_formats.specs.Rules.{PlainRule, MadeOfSteps, up, sign, number_of, several, step_made, steps_made, part_of, begin_of, end_of, kinds_made, words_of, operation_rules, region_rules, block_rules, argument_rules, rules_of, plain_rules}
 
 -- ---- the test
 
 -- the action keeps a name, or names a value or a block
 abbrev pub keeps_name : Action → Bool
-keeps_name act.Name = true
+keeps_name (act.Leaf leaves.Name) = true
 keeps_name act.Label = true
 keeps_name act.Result = true
 keeps_name act.Argument = true
@@ -78,13 +80,12 @@ module _ (ws : List (List ℕ)) where
     step_behind operands n = (tt, (tt, ((refl, tt), (tt, ((refl, tt), tt)))))
     step_behind operand n = ((refl, tt), tt)
     step_behind successor n = ((refl, tt), (tt, ((refl, tt), (tt, ((refl, tt), tt)))))
-    step_behind an_attribute n = (tt, tt)
-    step_behind a_type n = (tt, tt)
+    step_behind (a_value sort) n = (tt, tt)
     step_behind a_region n = (tt, tt)
     step_behind symbol_name n = ((refl, tt), tt)
-    step_behind a_name n = ((refl, tt), tt)
-    step_behind a_number n = (tt, tt)
-    step_behind a_width n = (tt, tt)
+    step_behind (a_leaf leaves.Name) n = ((refl, tt), tt)
+    step_behind (a_leaf leaves.Number) n = (tt, tt)
+    step_behind (a_leaf leaves.Width) n = (tt, tt)
     step_behind (list_of member printed separator) n =
         let m = steps_made ws member (up n 2) in
         let inside = steps_behind member (up n 2) in
@@ -102,8 +103,8 @@ module _ (ws : List (List ℕ)) where
   -- what stands between two actions of a sort
   body_behind : (s : Sort) (i : ℕ) (fresh : Bool) (ss : List Symbol) → BehindNames false ss → BehindNames fresh (Act (begin_of s i) ∷ (ss ++ Act (end_of s) ∷ []))
   body_behind sort.Operation i fresh ss h = behind_append false ss (Act act.EndOperation ∷ []) h tt
-  body_behind sort.«Type» i fresh ss h = behind_append false ss (Act act.EndType ∷ []) h tt
-  body_behind sort.Attribute i fresh ss h = behind_append false ss (Act act.EndAttribute ∷ []) h tt
+  body_behind sort.«Type» i fresh ss h = behind_append false ss (Act (act.End sorts.«Type») ∷ []) h tt
+  body_behind sort.Attribute i fresh ss h = behind_append false ss (Act (act.End sorts.Attribute) ∷ []) h tt
 
   kinds_behind : (s : Sort) (i : ℕ) (ks : List Kind) (n : ℕ) → AreBehindNames (kinds_made ws s i ks n).rules
   kinds_behind s i [] n = tt

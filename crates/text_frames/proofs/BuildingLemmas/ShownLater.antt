@@ -2,25 +2,24 @@
 use Rattle.std.proofs.Common.{List, [], ◌∷◌, ◌++◌}
 use Rattle.ir_names.specs.Tree.{LabelledTree, Trees, node, no_tree, a_tree, join}
 use Rattle.ir_print.specs.declared.format.Part.{Part}
-use Rattle.ir_print.specs.Pieces.{type_of_kind, attribute_of_kind, list, item, operands, successor, region, name, number, width, ValueTree, Pieces}
+use Rattle.ir_print.specs.Pieces.{value_of_kind, list, item, operands, successor, region, leaf, name, number, width, ValueTree, Pieces}
 use Rattle.ir_print.specs.Shown.{Said, Saying, Shows, ShowsAll, ShowsPart, ShowsParts, ShowsMembers, ShowsMember}
 use Rattle.std.specs.Prelude.{Vec}
 use Rattle.std.specs.Global.{Global}
+use Rattle.ir_print.specs.declared.format.ValueSort.TheVariants as sorts
 use Rattle.text_frames.specs.building.Kept.{KeepsKeys}
 
 module _ {K A T : Type 0} (says : Saying K A T) (s t : List T) (keeps : KeepsKeys s t) where
   mutual
     pub shows_later : (x : LabelledTree (Said A)) (p : ValueTree) → Shows says s x p → Shows says t x p
-    shows_later x (node (type_of_kind n) ts) (ty, key, us, e, at, says_it, all) = (ty, key, us, e, keeps ty.number key at, says_it, all_later us ts all)
-    shows_later x (node (attribute_of_kind n) ts) (attr, us, e, says_it, all) = (attr, us, e, says_it, all_later us ts all)
+    shows_later x (node (value_of_kind sorts.«Type» n) ts) (ty, key, us, e, at, says_it, all) = (ty, key, us, e, keeps ty.number key at, says_it, all_later us ts all)
+    shows_later x (node (value_of_kind sorts.Attribute n) ts) (attr, us, e, says_it, all) = (attr, us, e, says_it, all_later us ts all)
     shows_later x (node list ts) (us, e, all) = (us, e, all_later us ts all)
     shows_later x (node item ts) (us, e, all) = (us, e, all_later us ts all)
     shows_later x (node (operands n) ts) h = h
     shows_later x (node (successor n) ts) h = h
     shows_later x (node region ts) h = h
-    shows_later x (node (name cs) ts) h = h
-    shows_later x (node (number b m) ts) h = h
-    shows_later x (node (width w m) ts) h = h
+    shows_later x (node (leaf l) ts) h = h
 
     pub all_later : (us : Trees (Said A)) (ps : Pieces) → ShowsAll says s us ps → ShowsAll says t us ps
     all_later no_tree no_tree h = h
@@ -31,16 +30,14 @@ module _ {K A T : Type 0} (says : Saying K A T) (s t : List T) (keeps : KeepsKey
 module _ {D K A T : Type 0} (says : Saying K A T) (s t : List T) (keeps : KeepsKeys s t) where
   mutual
     pub part_later : (x : Part D K A T) (p : ValueTree) → ShowsPart says s x p → ShowsPart says t x p
-    part_later x (node (type_of_kind n) ts) (ty, e, h) = (ty, e, shows_later says s t keeps _ (node (type_of_kind n) ts) h)
-    part_later x (node (attribute_of_kind n) ts) (attr, e, h) = (attr, e, shows_later says s t keeps _ (node (attribute_of_kind n) ts) h)
+    part_later x (node (value_of_kind sorts.«Type» n) ts) (ty, e, h) = (ty, e, shows_later says s t keeps _ (node (value_of_kind sorts.«Type» n) ts) h)
+    part_later x (node (value_of_kind sorts.Attribute n) ts) (attr, e, h) = (attr, e, shows_later says s t keeps _ (node (value_of_kind sorts.Attribute n) ts) h)
     part_later x (node list ts) (ms, e, h) = (ms, e, members_later ms.items ts h)
     part_later x (node item ts) h = h
     part_later x (node (operands n) ts) h = h
     part_later x (node (successor n) ts) h = h
     part_later x (node region ts) h = h
-    part_later x (node (name cs) ts) h = h
-    part_later x (node (number b m) ts) h = h
-    part_later x (node (width w m) ts) h = h
+    part_later x (node (leaf l) ts) h = h
 
     pub parts_later : (xs : List (Part D K A T)) (ps : Pieces) → ShowsParts says s xs ps → ShowsParts says t xs ps
     parts_later [] no_tree h = h
@@ -56,15 +53,12 @@ module _ {D K A T : Type 0} (says : Saying K A T) (s t : List T) (keeps : KeepsK
 
     pub member_later : (xs : List (Part D K A T)) (p : ValueTree) → ShowsMember says s xs p → ShowsMember says t xs p
     member_later xs (node item ts) h = parts_later xs ts h
-    member_later xs (node (type_of_kind n) ts) h = h
-    member_later xs (node (attribute_of_kind n) ts) h = h
+    member_later xs (node (value_of_kind sort n) ts) h = h
     member_later xs (node list ts) h = h
     member_later xs (node (operands n) ts) h = h
     member_later xs (node (successor n) ts) h = h
     member_later xs (node region ts) h = h
-    member_later xs (node (name cs) ts) h = h
-    member_later xs (node (number b m) ts) h = h
-    member_later xs (node (width w m) ts) h = h
+    member_later xs (node (leaf x) ts) h = h
 
 -- one more part, and one more member
 module _ {D K A T : Type 0} (says : Saying K A T) (types : List T) where

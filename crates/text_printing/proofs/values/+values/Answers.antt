@@ -5,7 +5,7 @@ use Rattle.std.proofs.lemmas.Bool.Decides.{nat_tests}
 use Rattle.std.proofs.lemmas.Option.{slice_get_read}
 use Rattle.std.proofs.lemmas.Result.{on_ok_weaker}
 use Rattle.text_printing.proofs.FormatSteps.{step_of-List}
-use Rattle.text_printing.proofs.KindsPrinted.{type_printed, attribute_printed, type_part_printed, attribute_part_printed, no_list_printed, list_printed}
+use Rattle.text_printing.proofs.KindsPrinted.{type_printed, attribute_printed, type_part_printed, attribute_part_printed, leaf_part_printed, no_list_printed, list_printed}
 use Rattle.text_printing.proofs.ListOwed.{members_row}
 use Rattle.text_printing.proofs.Owed.{owed_at, owed_past, separated, not_separated}
 use Rattle.text_printing.proofs.ValuesOwed.{no_list, format_word_at, format_part_at, format_none_at, format_past}
@@ -65,6 +65,10 @@ print_part-returns-in_ok-print_type-in-Type g t c =
 pub print_part-returns-in_ok-print_attribute-in-Attribute : goal.print_part-returns-in_ok-print_attribute-in-Attribute
 print_part-returns-in_ok-print_attribute-in-Attribute g t c =
     attribute_part_printed _ _ _ c.args.left c.args.lists c.args.part.now (step_of c.args.directive) c.in-Attribute.attr _ _ c.in-Attribute.is c.in_ok-print_attribute-in-Attribute.ensures
+
+pub print_part-returns-in_ok-print_leaf-in-Leaf : goal.print_part-returns-in_ok-print_leaf-in-Leaf
+print_part-returns-in_ok-print_leaf-in-Leaf g t c =
+    leaf_part_printed _ _ _ c.args.left c.args.lists c.args.part.now (step_of c.args.directive) c.in-Leaf.leaf _ _ c.in-Leaf.is c.in_ok-print_leaf-in-Leaf.ensures
 
 pub print_part-returns-in_ok-print_list-in-List : goal.print_part-returns-in_ok-print_list-in-List
 print_part-returns-in_ok-print_list-in-List g t c =

@@ -1,14 +1,16 @@
-use Rattle.std.proofs.Common.{◌≡◌, ◌-◌, ◌∙◌, true, sym, ap, subst}
+use Rattle.std.proofs.Common.{◌≡◌, ◌-◌, ◌∙◌, sym, ap, subst}
 use Rattle.std.proofs.lemmas.Result.{on_err_weaker, on_ok_weaker}
 use Rattle.ir_characters.specs.Texts.{codes_of}
 use Rattle.text_assembling.proofs.Undone.{undoes_loose}
-use Rattle.ir_names.specs.Text.{is_identifier}
 use Rattle.ir_grammar.specs.declared.grammar.Action.TheVariants as act
 use Rattle.ir_forest.specs.Identifiers.{IsSpelt}
+use Rattle.ir_forest.specs.Meaning.{leaf_in}
+use Rattle.ir_print.specs.Shown.{IsLeaf}
 use Rattle.ir_tokens.specs.Tokens.{text_between}
-use Rattle.text_frames.proofs.Moving.{is_number, is_width}
+use Rattle.text_frames.specs.Makes.{IsSpelled}
+use Rattle.text_frames.proofs.Moving.{spelt_leaf}
 use Rattle.text_assembling.proofs.Stepping.{end_refused}
-use Rattle.text_assembling.proofs.Stepped.{on_ok_both, stepped, stepped_result, stepped_argument, stepped_operand, stepped_name, stepped_number, stepped_width, stepped_operation, stepped_region, stepped_block, stepped_operands, stepped_edge, stepped_type, stepped_attribute, stepped_list, stepped_item, stepped_header, stepped_end, ok_case, goes_out, can_header, header_is_full}
+use Rattle.text_assembling.proofs.Stepped.{on_ok_both, stepped, stepped_result, stepped_argument, stepped_operand, stepped_leaf, stepped_operation, stepped_region, stepped_block, stepped_operands, stepped_edge, stepped_value, stepped_list, stepped_item, stepped_header, stepped_end, ok_case, goes_out, can_header, header_is_full}
 use Rattle.text_assembling.proofs.assembling.Assembler.step.Goals as goal
 
 pub returns-in-Result-clause-went : goal.returns-in-Result-clause-went
@@ -50,21 +52,13 @@ returns-in-Argument-clause-went g c = on_ok_weaker c.argument.result
     })
     c.argument.ensures.named
 
-pub returns-in-BeginType-clause-went : goal.returns-in-BeginType-clause-went
-returns-in-BeginType-clause-went g c = on_ok_weaker c.begin_type.result
+pub returns-in-Begin-clause-went : goal.returns-in-Begin-clause-went
+returns-in-Begin-clause-went g c = on_ok_weaker c.begin_value.result
     (λ w. record {
-      steps = stepped g.D.TextDialect.says g.D.TextDialect.values (text_between (codes_of c.args.source.now.chars) c.args.source.now.starts.now) _ _ c.args.self.now c.begin_type.new.self c.args.action (act.BeginType c.in-BeginType.kind) c.in-BeginType.is
-          (stepped_type g.D.TextDialect.says g.D.TextDialect.values (text_between (codes_of c.args.source.now.chars) c.args.source.now.starts.now) _ c.args.self.now c.begin_type.new.self c.begin_type.ensures.made c.in-BeginType.kind w);
+      steps = stepped g.D.TextDialect.says g.D.TextDialect.values (text_between (codes_of c.args.source.now.chars) c.args.source.now.starts.now) _ _ c.args.self.now c.begin_value.new.self c.args.action (act.Begin c.in-Begin.sort c.in-Begin.kind) c.in-Begin.is
+          (stepped_value g.D.TextDialect.says g.D.TextDialect.values (text_between (codes_of c.args.source.now.chars) c.args.source.now.starts.now) _ c.args.self.now c.begin_value.new.self c.begin_value.ensures.made c.in-Begin.sort c.in-Begin.kind w);
     })
-    c.begin_type.ensures.begun
-
-pub returns-in-BeginAttribute-clause-went : goal.returns-in-BeginAttribute-clause-went
-returns-in-BeginAttribute-clause-went g c = on_ok_weaker c.begin_attribute.result
-    (λ w. record {
-      steps = stepped g.D.TextDialect.says g.D.TextDialect.values (text_between (codes_of c.args.source.now.chars) c.args.source.now.starts.now) _ _ c.args.self.now c.begin_attribute.new.self c.args.action (act.BeginAttribute c.in-BeginAttribute.kind) c.in-BeginAttribute.is
-          (stepped_attribute g.D.TextDialect.says g.D.TextDialect.values (text_between (codes_of c.args.source.now.chars) c.args.source.now.starts.now) _ c.args.self.now c.begin_attribute.new.self c.begin_attribute.ensures.made c.in-BeginAttribute.kind w);
-    })
-    c.begin_attribute.ensures.begun
+    c.begin_value.ensures.begun
 
 pub returns-in-BeginOperands-clause-went : goal.returns-in-BeginOperands-clause-went
 returns-in-BeginOperands-clause-went g c = on_ok_weaker c.begin_operands.result
@@ -98,39 +92,18 @@ returns-in-BeginItem-clause-went g c = on_ok_weaker c.begin_item.result
     })
     c.begin_item.ensures.begun
 
-pub returns-in-Name-clause-went : goal.returns-in-Name-clause-went
-returns-in-Name-clause-went g c =
+pub returns-in-Leaf-clause-went : goal.returns-in-Leaf-clause-went
+returns-in-Leaf-clause-went g c =
+    let sort = c.in-Leaf.sort in
     let is : codes_of c.text.result ≡ text_between (codes_of c.args.source.now.chars) c.args.source.now.starts.now (c.args.self.now.taken - 1) = c.text.ensures ∙ ap (text_between (codes_of c.args.source.now.chars) c.args.source.now.starts.now) c.last.ensures in
-    let going = c.requires.going.can in
-    let spelt = subst (λ cs. is_identifier cs ≡ true) (sym is) (subst (λ x. IsSpelt x ((text_between (codes_of c.args.source.now.chars) c.args.source.now.starts.now) (c.args.self.now.taken - 1))) c.in-Name.is going.goes.spelt) in
-    on_ok_weaker c.name.result
+    let spelt = subst (λ x. IsSpelt x ((text_between (codes_of c.args.source.now.chars) c.args.source.now.starts.now) (c.args.self.now.taken - 1))) c.in-Leaf.is c.requires.going.can.goes.spelt in
+    let spelled = subst (λ cs. IsSpelled (leaf_in sort cs)) (sym is) (spelt_leaf sort _ spelt) in
+    on_ok_weaker c.leaf.result
     (λ w. record {
-      steps = stepped g.D.TextDialect.says g.D.TextDialect.values (text_between (codes_of c.args.source.now.chars) c.args.source.now.starts.now) _ _ c.args.self.now c.name.new.self c.args.action (act.Name) c.in-Name.is
-          (stepped_name g.D.TextDialect.says g.D.TextDialect.values (text_between (codes_of c.args.source.now.chars) c.args.source.now.starts.now) _ c.args.self.now c.name.new.self c.name.ensures.around c.name.ensures.made w.0 (w.1 ∙ is) w.2);
+      steps = stepped g.D.TextDialect.says g.D.TextDialect.values (text_between (codes_of c.args.source.now.chars) c.args.source.now.starts.now) _ _ c.args.self.now c.leaf.new.self c.args.action (act.Leaf sort) c.in-Leaf.is
+          (stepped_leaf g.D.TextDialect.says g.D.TextDialect.values (text_between (codes_of c.args.source.now.chars) c.args.source.now.starts.now) _ c.args.self.now c.leaf.new.self c.leaf.ensures.around c.leaf.ensures.made sort w.0 (subst (λ cs. IsLeaf w.0 (leaf_in sort cs)) is w.1) w.2);
     })
-    (c.name.ensures.here spelt)
-
-pub returns-in-Number-clause-went : goal.returns-in-Number-clause-went
-returns-in-Number-clause-went g c =
-    let k = is_number (codes_of c.text-in-Number.result) in
-    let is : codes_of c.text-in-Number.result ≡ text_between (codes_of c.args.source.now.chars) c.args.source.now.starts.now (c.args.self.now.taken - 1) = c.text-in-Number.ensures ∙ ap (text_between (codes_of c.args.source.now.chars) c.args.source.now.starts.now) c.last-in-Number.ensures in
-    on_ok_weaker c.number.result
-    (λ w. record {
-      steps = stepped g.D.TextDialect.says g.D.TextDialect.values (text_between (codes_of c.args.source.now.chars) c.args.source.now.starts.now) _ _ c.args.self.now c.number.new.self c.args.action (act.Number) c.in-Number.is
-          (stepped_number g.D.TextDialect.says g.D.TextDialect.values (text_between (codes_of c.args.source.now.chars) c.args.source.now.starts.now) _ c.args.self.now c.number.new.self c.number.ensures.around c.number.ensures.made k.0 k.1 w.0 (rw (← is) k.2) w.1 w.2);
-    })
-    (c.number.ensures.here k.0 k.1 k.2)
-
-pub returns-in-Width-clause-went : goal.returns-in-Width-clause-went
-returns-in-Width-clause-went g c =
-    let k = is_width (codes_of c.text-in-Width.result) in
-    let is : codes_of c.text-in-Width.result ≡ text_between (codes_of c.args.source.now.chars) c.args.source.now.starts.now (c.args.self.now.taken - 1) = c.text-in-Width.ensures ∙ ap (text_between (codes_of c.args.source.now.chars) c.args.source.now.starts.now) c.last-in-Width.ensures in
-    on_ok_weaker c.width.result
-    (λ w. record {
-      steps = stepped g.D.TextDialect.says g.D.TextDialect.values (text_between (codes_of c.args.source.now.chars) c.args.source.now.starts.now) _ _ c.args.self.now c.width.new.self c.args.action (act.Width) c.in-Width.is
-          (stepped_width g.D.TextDialect.says g.D.TextDialect.values (text_between (codes_of c.args.source.now.chars) c.args.source.now.starts.now) _ c.args.self.now c.width.new.self c.width.ensures.around c.width.ensures.made k.0 k.1 w.0 (rw (← is) k.2) w.1 w.2);
-    })
-    (c.width.ensures.here k.0 k.1 k.2)
+    (c.leaf.ensures.here spelled)
 
 pub returns-in-Operand-clause-went : goal.returns-in-Operand-clause-went
 returns-in-Operand-clause-went g c = ok_case c.operand.result _ (λ get. record {
