@@ -11,6 +11,7 @@ use Rattle.ir_trees.proofs.Same.{same_on}
 use Rattle.ir_trees.specs.Stands.{by_handle}
 use Rattle.ir_types.specs.Interned.{key_at}
 use Rattle.ir_rereading.proofs.OneTree.{one_tree_said}
+use Rattle.kit.specs.Context.{KitContext, KitTree}
 use Rattle.kit.specs.Leads.{leads}
 use Rattle.kit_language.specs.Language.{kit_language}
 use Rattle.kit_ruled_views.specs.TreePasses.{IsTreeAfter}
@@ -19,8 +20,6 @@ use Rattle.kit_ops.specs.declared.kinds.KitOp.{KitOp}
 use Rattle.kit_ops.specs.declared.types.KitType.{KitType}
 use Rattle.kit_optimiser.specs.Passed.{pass_of}
 use Rattle.kit_ops.specs.declared.pass.KitPass.{KitPass}
-use Rattle.kit_ruled_views.specs.Functions.{KitContext}
-use Rattle.kit_ruled_views.specs.Ruled.{KitTree}
 use Rattle.kit_text_programs.specs.SameLaws.{OneTextSaysTheSame, PassesKeepSame, SayTheSame, StandsAs, TheSameSayOneText}
 use Rattle.kit_text_programs.specs.SameLaws.{ListsOfPassesCut, TypesAreNumbered}
 use Rattle.kit_text_programs.specs.Meanings.{meanings}

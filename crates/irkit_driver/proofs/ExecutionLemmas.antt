@@ -8,12 +8,12 @@ use Rattle.ir_names.specs.Text.{is_identifier}
 use Rattle.ir_names.specs.declared.identifier.Identifier.{Identifier}
 use Rattle.ir_program.specs.declared.handles.Operation.{Operation}
 use Rattle.ir_program.specs.declared.handles.Ptr.{Ptr}
+use Rattle.kit.specs.Context.{KitContext}
 use Rattle.kit_flat.specs.declared.outcome.Outcome.{Outcome}
 use Rattle.kit_interpreter.specs.Running.{Runs}
 use Rattle.kit_places.specs.Store.{locate}
 use Rattle.kit_interpreter.specs.declared.executing.ExecFault.{ExecFault}
 use Rattle.kit_interpreter.specs.declared.executing.ExecFault.TheVariants as exec
-use Rattle.kit_ruled_views.specs.Functions.{KitContext}
 use Rattle.irkit_streams.specs.Ends.{EndsWriting}
 use Rattle.irkit_streams.specs.declared.faults.WriteFault.{WriteFault}
 use Rattle.irkit_streams.specs.declared.watched.Watched.{Watched}

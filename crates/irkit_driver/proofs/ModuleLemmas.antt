@@ -6,6 +6,7 @@ use Rattle.ir_program.specs.declared.handles.Operation.{Operation}
 use Rattle.ir_program.specs.declared.handles.Ptr.{Ptr}
 use Rattle.ir_trees.specs.Stands.{by_handle}
 use Rattle.ir_types.specs.Interned.{key_at}
+use Rattle.kit.specs.Context.{KitContext, KitTree}
 use Rattle.kit.specs.Lawful.{kit_lawful}
 use Rattle.kit.specs.Meaning.{kit}
 use Rattle.kit_behaviour.specs.ConstantPropagation.{all_wanted, KeepsFunctionFacts, IsSccpOfFunctions, propagated}
@@ -32,8 +33,7 @@ use Rattle.kit_optimiser.proofs.HeadsKept.{list_keeps}
 use Rattle.kit_optimiser.specs.Passed.{pass_of}
 use Rattle.kit_ops.specs.declared.pass.KitPass.{KitPass}
 use Rattle.kit_ops.specs.declared.pass.KitPass.TheVariants.{Sccp}
-use Rattle.kit_ruled_views.specs.Functions.{KitContext}
-use Rattle.kit_ruled_views.specs.Ruled.{KitTree, type_or_first}
+use Rattle.kit_ruled_views.specs.Ruled.{type_or_first}
 use Rattle.kit_ruled_views.proofs.HandleSameness.{values_apart}
 use Rattle.opt_trees.proofs.FactsKept.{facts_kept}
 use Rattle.irkit_driver.specs.Facts.{TreeFactsStay}

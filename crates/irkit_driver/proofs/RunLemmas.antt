@@ -5,6 +5,7 @@ use Rattle.ir_print.specs.Pieces.{Entity}
 use Rattle.ir_program.specs.declared.handles.Operation.{Operation}
 use Rattle.ir_program.specs.declared.handles.Ptr.{Ptr}
 use Rattle.ir_trees.specs.Stands.{StandsFor}
+use Rattle.kit.specs.Context.{KitContext, KitTree}
 use Rattle.kit_behaviour.specs.Laws.{AlikeWithin}
 use Rattle.kit_behaviour.specs.Machine.{FunctionsByPath}
 use Rattle.kit_behaviour.specs.PassLists.{Goal, IsAfter, SameFaces}
@@ -14,8 +15,6 @@ use Rattle.kit_ruled_views.proofs.programs.FunctionSizes.{one_pass}
 use Rattle.kit_optimiser.specs.Programs.{PassedPrograms}
 use Rattle.kit_optimiser.specs.Passed.{pass_of}
 use Rattle.kit_ops.specs.declared.pass.KitPass.{KitPass}
-use Rattle.kit_ruled_views.specs.Functions.{KitContext}
-use Rattle.kit_ruled_views.specs.Ruled.{KitTree}
 use Rattle.kit_text_programs.specs.Laws.{TextsHaveOneProgram}
 use Rattle.irkit_running.specs.Lists.{IsWrittenAs}
 use Rattle.irkit_driver.specs.Programs.{AreRun, HasProgram, operations_said, SaysProgram}

@@ -2,6 +2,7 @@
 use Rattle.std.specs.Prelude.{ℕ, List, [], ◌∷◌}
 use Rattle.ir_trees.specs.Stands.{by_handle}
 use Rattle.ir_trees.specs.Trees.{Root}
+use Rattle.kit.specs.Context.{KitTree}
 use Rattle.kit.specs.Meaning.{kit}
 use Rattle.kit_behaviour.specs.ConstantPropagation.{all_wanted, KeepsFunctionFacts}
 use Rattle.kit_behaviour.specs.Facts as flat
@@ -10,7 +11,6 @@ use Rattle.kit_behaviour.specs.Places.{Place}
 use Rattle.kit_ops.specs.declared.attributes.IntegerAttr.{IntegerAttr}
 use Rattle.kit_ops.specs.declared.pass.KitPass.{KitPass}
 use Rattle.kit_ops.specs.declared.pass.KitPass.TheVariants.{Sccp}
-use Rattle.kit_ruled_views.specs.Ruled.{KitTree}
 use Rattle.kit_views.specs.Reading.{kit_contents}
 use Rattle.opt_trees.specs.Facts.{Facts, IsMostPrecise}
 use Rattle.opt_trees.specs.Sccp.{fresh, IsSccp, KeepsFacts}

@@ -6,9 +6,11 @@ use Rattle.ir_program.specs.declared.handles.Operation.{Operation}
 use Rattle.ir_program.specs.declared.handles.Ptr.{Ptr}
 use Rattle.ir_trees.specs.Stands.{by_handle}
 use Rattle.ir_types.specs.Interned.{key_at}
+use Rattle.kit.specs.Context.{KitContext, KitTree}
 use Rattle.kit_behaviour.specs.Machine.{FunctionsByPath}
 use Rattle.kit_behaviour.specs.Places.{Place}
 use Rattle.kit_checks.specs.Faults.{KeptEverywhere}
+use Rattle.kit_checks.specs.KitWorld.{HasDeclaredTypes}
 use Rattle.kit_checks.specs.World.{world_of}
 use Rattle.kit_checks.specs.declared.rule.Rule.{Rule}
 use Rattle.kit_ruled_views.specs.Operations.{operations_below}
@@ -17,8 +19,7 @@ use Rattle.kit_ruled_views.specs.TreePasses.{IsTreeAfter}
 use Rattle.kit_optimiser.specs.Passed.{pass_of}
 use Rattle.kit_ops.specs.declared.pass.KitPass.{KitPass}
 use Rattle.kit_execution.specs.Numberings.{NumbersTextsApart}
-use Rattle.kit_ruled_views.specs.Functions.{KitContext}
-use Rattle.kit_ruled_views.specs.Ruled.{HasOwnNames, HaveTypesIn, KitTree}
+use Rattle.kit_ruled_views.specs.Ruled.{HasOwnNames}
 use Rattle.irkit_running.specs.Outcomes.{RunGives}
 use Rattle.irkit_refusals.specs.Texts.{IsAcceptedAs}
 
@@ -28,7 +29,7 @@ use Rattle.irkit_refusals.specs.Texts.{IsAcceptedAs}
 pub record IsModule (s : KitContext) (t : KitTree) : Type 0 where
   pub rules : (r : Rule) → KeptEverywhere (world_of s) t r
   pub names : HasOwnNames t
-  pub types : HaveTypesIn (type_at s.program) t
+  pub types : HasDeclaredTypes (type_at s.program) t
 
 -- the passes, one after another, make the second tree of the first, a tree of the context, each on a sound tree, as `run`
 -- makes them; names of functions have these numbers

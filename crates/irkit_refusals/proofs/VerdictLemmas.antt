@@ -5,10 +5,11 @@ use Rattle.ir_print.specs.Pieces.{Entity}
 use Rattle.ir_program.specs.declared.handles.Operation.{Operation}
 use Rattle.ir_program.specs.declared.handles.Ptr.{Ptr}
 use Rattle.ir_trees.proofs.OneTree.{one_tree}
+use Rattle.kit.specs.Context.{KitContext}
 use Rattle.kit_checks.specs.Faults.{KeptEverywhere}
 use Rattle.kit_checks.specs.World.{world_of}
 use Rattle.kit_checks.specs.declared.rule.Rule.{Rule}
-use Rattle.kit_ruled_views.specs.Functions.{KitContext, KeepsRules}
+use Rattle.kit_ruled_views.specs.Functions.{KeepsRules}
 use Rattle.kit_text_programs.specs.RuleLaws.{TextsHaveOneVerdict, HasVerdictOf}
 use Rattle.irkit_refusals.specs.Texts.{HoldsText, IsAccepted, IsAcceptedAs}
 

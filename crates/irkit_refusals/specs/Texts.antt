@@ -7,13 +7,14 @@ use Rattle.ir_rereading.specs.Texts.{IsTextFault, Says, HasDefinitions}
 use Rattle.ir_tokens.specs.declared.faults.TextFault.{TextFault}
 use Rattle.ir_trees.specs.Stands.{StandsFor}
 use Rattle.ir_types.specs.Interned.{HasDistinctTypes}
+use Rattle.kit.specs.Context.{KitContext, KitTree}
 use Rattle.kit_checks.specs.Faults.{IsFirstFault}
 use Rattle.kit_checks.specs.World.{world_of}
 use Rattle.kit_checks.specs.declared.rule.Rule.{Rule}
 use Rattle.kit_language.specs.Language.{kit_language}
 use Rattle.kit_ops.specs.contracts.types.KitTypePartialEq.TheImpl as of_types
-use Rattle.kit_ruled_views.specs.Functions.{KitContext, KeepsRules}
-use Rattle.kit_ruled_views.specs.Ruled.{HasOwnNames, KitTree}
+use Rattle.kit_ruled_views.specs.Functions.{KeepsRules}
+use Rattle.kit_ruled_views.specs.Ruled.{HasOwnNames}
 use Rattle.kit_text_programs.specs.Laws.{HaveOwnNumbers}
 use Rattle.kit_text_programs.specs.RuleLaws.{HaveWrittenTypes}
 use Rattle.kit.specs.Says.{says}

@@ -6,8 +6,8 @@ use Rattle.ir_base.specs.declared.growth.GrowError.TheVariants as grow
 use Rattle.ir_forest.specs.Closed.{definitions_of}
 use Rattle.ir_program.specs.declared.handles.Operation.{Operation}
 use Rattle.ir_program.specs.declared.handles.Ptr.{Ptr}
+use Rattle.kit.specs.Context.{KitContext}
 use Rattle.kit_ops.specs.declared.pass.KitPass.{KitPass}
-use Rattle.kit_ruled_views.specs.Functions.{KitContext}
 use Rattle.irkit_streams.specs.Ends.{EndsWriting, GaveAll}
 use Rattle.irkit_streams.specs.declared.faults.WriteFault.{WriteFault}
 use Rattle.irkit_streams.specs.declared.watched.Watched.{Watched}

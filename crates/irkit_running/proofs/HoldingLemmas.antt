@@ -12,7 +12,9 @@ use Rattle.ir_program.specs.declared.handles.Ptr.{Ptr}
 use Rattle.ir_program.specs.declared.handles.Value.{Value}
 use Rattle.ir_trees.specs.Stands.{StandsFor, defined_by}
 use Rattle.ir_trees.specs.Trees.{Defined}
+use Rattle.kit.specs.Context.{KitContext, KitTree}
 use Rattle.kit_checks.specs.Faults.{KeptEverywhere}
+use Rattle.kit_checks.specs.KitWorld.{HasDeclaredTypes}
 use Rattle.kit_checks.specs.Rules.{FitsKind}
 use Rattle.kit_checks.specs.Sites.{Site}
 use Rattle.kit_checks.specs.World.{world_of}
@@ -20,9 +22,6 @@ use Rattle.kit_checks.specs.declared.rule.Rule.{Rule}
 use Rattle.kit_checks.specs.declared.rule.Rule.TheVariants as rule
 use Rattle.kit.specs.Meaning.{KitOperation, KitBlock}
 use Rattle.kit_pass_rules.proofs.Lists.{map_at, has_at_index, index_of_has}
-use Rattle.kit_pass_rules.specs.Worlds.{IsTypedIn}
-use Rattle.kit_ruled_views.specs.Functions.{KitContext}
-use Rattle.kit_ruled_views.specs.Ruled.{KitTree}
 use Rattle.kit_text_programs.specs.RuleLaws.{HaveWrittenTypes}
 use Rattle.opt_inside.specs.Occurring.{IsDefinedBelow}
 use Rattle.ir_trees.specs.Renames.{names_of}
@@ -76,7 +75,7 @@ module _ (c : Program KitOperation KitBlock) (typed : AreTypedAtDefiners c) wher
 
 -- values have the types that are written, in the tree and at the operation
 pub written_types : (s : KitContext) (op : Ptr Operation) → AreTypedAtDefiners s.program → (t : KitTree) → StandsFor s.program op t
-    → IsTypedIn (type_at s.program) t → HaveWrittenTypes s t
+    → HasDeclaredTypes (type_at s.program) t → HaveWrittenTypes s t
 written_types s op typed t stands inside = record {
   inside = record { results = inside.results; arguments = inside.arguments };
   results = root_typed s.program typed op t stands;

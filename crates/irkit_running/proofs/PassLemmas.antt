@@ -7,11 +7,10 @@ use Rattle.ir_program.specs.declared.handles.Operation.{Operation}
 use Rattle.ir_program.specs.declared.handles.Ptr.{Ptr}
 use Rattle.ir_trees.proofs.OneTree.{one_tree}
 use Rattle.ir_trees.specs.Stands.{StandsFor}
+use Rattle.kit.specs.Context.{KitContext, KitTree}
 use Rattle.kit_behaviour.specs.PassLists.{Pass}
 use Rattle.kit_optimiser.specs.Passed.{FillsUp, IsOptimised, pass_of}
 use Rattle.kit_ops.specs.declared.pass.KitPass.{KitPass}
-use Rattle.kit_ruled_views.specs.Functions.{KitContext}
-use Rattle.kit_ruled_views.specs.Ruled.{KitTree}
 use Rattle.kit_writable_trees.specs.Writable.{IsWritableRoot}
 use Rattle.irkit_running.proofs.ReadLemmas.{at_error}
 use Rattle.irkit_running.specs.Known.{CanBeWritten}

@@ -9,6 +9,7 @@ use Rattle.ir_rereading.specs.Texts.{IsRefusal, HasDefinitions, Says}
 use Rattle.ir_tokens.specs.declared.faults.TextFault.{TextFault}
 use Rattle.ir_tokens.specs.declared.faults.TextFault.TheVariants as text
 use Rattle.ir_trees.specs.Stands.{StandsFor}
+use Rattle.kit.specs.Context.{KitContext, KitTree}
 use Rattle.kit_checks.specs.Faults.{IsVerdict}
 use Rattle.kit_checks.specs.World.{world_of}
 use Rattle.kit_checks.specs.declared.rule.RuleFault.{RuleFault}
@@ -16,8 +17,7 @@ use Rattle.kit_checks.specs.declared.rule.RuleFault.TheVariants as rule
 use Rattle.irkit_running.specs.Known.{KitSeen}
 use Rattle.kit_language.specs.Language.{kit_language}
 use Rattle.kit_ruled_passes.specs.Entering.{IsEnteredNowhere}
-use Rattle.kit_ruled_views.specs.Functions.{KitContext, IsSelfContained}
-use Rattle.kit_ruled_views.specs.Ruled.{KitTree}
+use Rattle.kit_ruled_views.specs.Functions.{IsSelfContained}
 use Rattle.kit.specs.Says.{says}
 use Rattle.text_frames.specs.building.Kept.{SameSeen}
 use Rattle.text_dialect.specs.Seen.{Seen, seen}

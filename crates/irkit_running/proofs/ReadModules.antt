@@ -10,6 +10,7 @@ use Rattle.ir_program.specs.declared.handles.IRNode.TheVariants.{Operation as Op
 use Rattle.ir_program.specs.declared.handles.Operation.{Operation}
 use Rattle.ir_program.specs.declared.handles.Ptr.{Ptr}
 use Rattle.ir_program.specs.declared.handles.Value.{Value}
+use Rattle.kit.specs.Context.{KitContext}
 use Rattle.opt_inside.specs.Occurring.{IsDefinedBelow}
 use Rattle.opt_inside.proofs.Added.{HasValues, definer_of}
 use Rattle.opt_inside.proofs.Among.{results_are, arguments_are}
@@ -22,7 +23,7 @@ use Rattle.text_dialect.specs.Seen.{seen, seen_operation}
 use Rattle.text_frames.specs.Raised.{HoldsAllNew}
 use Rattle.kit.specs.Meaning.{KitOperation}
 use Rattle.kit_ruled_passes.specs.Entering.{IsEnteredNowhere}
-use Rattle.kit_ruled_views.specs.Functions.{KitContext, IsSelfContained}
+use Rattle.kit_ruled_views.specs.Functions.{IsSelfContained}
 use Rattle.irkit_running.specs.Known.{KitSeen}
 
 -- what is in a row of an operation is in that of one that is there

@@ -4,8 +4,9 @@ use Rattle.std.specs.Prelude.{IfOk}
 use Rattle.ir_program.specs.declared.handles.Operation.{Operation}
 use Rattle.ir_program.specs.declared.handles.Ptr.{Ptr}
 use Rattle.ir_rereading.specs.Texts.{Says}
+use Rattle.kit.specs.Context.{KitContext}
 use Rattle.kit_language.specs.Language.{kit_language}
-use Rattle.kit_ruled_views.specs.Functions.{KitContext, KeepsRules}
+use Rattle.kit_ruled_views.specs.Functions.{KeepsRules}
 use Rattle.kit_text_programs.specs.RuleLaws.{TextsHaveOneVerdict}
 use Rattle.text_printing.specs.Again.{IsReadAgain, IsTextOfModule}
 use Rattle.irkit_refusals.proofs.VerdictLemmas.{rules_carry}

@@ -6,12 +6,12 @@ use Rattle.ir_forest.specs.Closed.{IsClosedTree, IsNumbered, IsSameModule}
 use Rattle.ir_print.specs.Pieces.{Entity}
 use Rattle.ir_program.specs.declared.handles.Operation.{Operation}
 use Rattle.ir_program.specs.declared.handles.Ptr.{Ptr}
+use Rattle.kit.specs.Context.{KitContext}
 use Rattle.kit_language.specs.Language.{kit_language}
 use Rattle.kit_optimiser.specs.Programs.{PassedPrograms}
 use Rattle.kit_optimiser.specs.Passed.{IsOptimised, FillsUp, pass_of}
 use Rattle.kit_ops.specs.declared.pass.KitPass.{KitPass}
 use Rattle.kit_execution.specs.Numberings.{NumbersTextsApart}
-use Rattle.kit_ruled_views.specs.Functions.{KitContext}
 use Rattle.text_printing.specs.Again.{IsTextOfModule}
 use Rattle.irkit_refusals.specs.Texts.{HoldsText, IsAcceptedText}
 

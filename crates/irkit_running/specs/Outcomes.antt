@@ -4,13 +4,13 @@ use Rattle.ir_forest.specs.Closed.{definitions_of}
 use Rattle.ir_program.specs.declared.handles.IRNode.TheVariants.{Operation as OperationNode}
 use Rattle.ir_program.specs.declared.handles.Operation.{Operation}
 use Rattle.ir_program.specs.declared.handles.Ptr.{Ptr}
+use Rattle.kit.specs.Context.{KitContext}
 use Rattle.kit_flat.specs.declared.outcome.Outcome.{Outcome}
 use Rattle.kit_interpreter.specs.declared.executing.ExecFault.{ExecFault}
 use Rattle.kit_interpreter.specs.declared.executing.ExecFault.TheVariants as exec
 use Rattle.kit_ruled_passes.specs.Held.{HoldsModule}
 use Rattle.kit_optimiser.specs.Passed.{FillsUp, pass_of}
 use Rattle.kit_ops.specs.declared.pass.KitPass.{KitPass}
-use Rattle.kit_ruled_views.specs.Functions.{KitContext}
 use Rattle.text_frames.specs.building.Kept.{SameSeen}
 use Rattle.text_dialect.specs.Seen.{seen}
 use Rattle.text_frames.specs.Raised.{HoldsAllNew}

@@ -5,11 +5,11 @@ use Rattle.ir_names.specs.Identifier.{text_of}
 use Rattle.ir_names.specs.declared.identifier.Identifier.{Identifier}
 use Rattle.ir_program.specs.declared.handles.Operation.{Operation}
 use Rattle.ir_program.specs.declared.handles.Ptr.{Ptr}
+use Rattle.kit.specs.Context.{KitContext}
 use Rattle.kit_flat.specs.declared.outcome.Outcome.{Outcome}
 use Rattle.kit_interpreter.specs.Running.{Runs}
 use Rattle.kit_interpreter.specs.declared.executing.ExecFault.{ExecFault}
 use Rattle.kit_interpreter.specs.declared.executing.ExecFault.TheVariants.{Memory, WrongPath, WrongArguments}
-use Rattle.kit_ruled_views.specs.Functions.{KitContext}
 
 -- the parts of a word between slashes (`/` is 47): the names of a path, outermost first
 abbrev pub names_in : List ℕ → List (List ℕ)

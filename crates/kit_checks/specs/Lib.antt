@@ -10,3 +10,4 @@ pub mod Reading
 pub mod Passing
 pub mod Handing
 pub mod Naming
+pub mod KitWorld

@@ -7,6 +7,8 @@ use Rattle.ir_program.specs.declared.handles.BasicBlock.{BasicBlock}
 use Rattle.ir_trees.specs.Stands.{AreTree, StandsFor}
 use Rattle.ir_trees.specs.Trees.{Blocks}
 use Rattle.ir_trees.proofs.Members.{Has, at_has, has_front}
+use Rattle.kit.specs.Context.{KitProgram, KitTree}
+use Rattle.kit.specs.Meaning.{KitBlock, KitOperation}
 use Rattle.kit_checks.specs.Located.{IsBody}
 use Rattle.kit_checks.specs.Rules.{HasModuleBody}
 use Rattle.kit_checks.specs.Sites.{Listed, Body, operation_list, block_list, region_list, Site}
@@ -15,30 +17,29 @@ use Rattle.kit_checks.proofs.Down.{step_to, region_listed, block_listed, regions
 use Rattle.kit_checks.proofs.Everys.{at_index}
 use Rattle.kit_checks.proofs.Passed.{every_has}
 use Rattle.kit_checks.proofs.Upward.{block_tree, operation_tree}
-use Rattle.kit_places.specs.Store.{KitData, KitNotes, InterpretedProgram, body_of, members}
-use Rattle.kit_execution.specs.Obeying.{ExecutedTree}
+use Rattle.kit_places.specs.Store.{body_of, members}
 use Rattle.kit_execution.proofs.Reached.{outer_if, IsReached, step_reached}
 
 -- lists of blocks, blocks and sites of trees of `kit`
 abbrev pub KitBlocks : Type 0
-KitBlocks = Listed KitData KitNotes Blocks
+KitBlocks = Listed KitOperation KitBlock Blocks
 
 abbrev pub KitBody : Type 0
-KitBody = Body KitData KitNotes
+KitBody = Body KitOperation KitBlock
 
 abbrev pub KitSite : Type 0
-KitSite = Site KitData KitNotes
+KitSite = Site KitOperation KitBlock
 
 -- the blocks are those of the first region
-abbrev pub AreFirst : ExecutedTree → KitBlocks → Type 0
+abbrev pub AreFirst : KitTree → KitBlocks → Type 0
 AreFirst u blocks = slice_get (region_list u.regions) 0 ≡ Some blocks
 
 -- one region is the first
-pub only_region : (u : ExecutedTree) → length (region_list u.regions) ≡ 1 → (blocks : KitBlocks) × AreFirst u blocks
+pub only_region : (u : KitTree) → length (region_list u.regions) ≡ 1 → (blocks : KitBlocks) × AreFirst u blocks
 only_region u one = at_index (region_list u.regions) 0 (omega (arith, one))
 
-module _ (c : InterpretedProgram) where
-  pub body_tree : (p : Ptr Operation) (u : ExecutedTree) (blocks : KitBlocks) → StandsFor c p u → AreFirst u blocks
+module _ (c : KitProgram) where
+  pub body_tree : (p : Ptr Operation) (u : KitTree) (blocks : KitBlocks) → StandsFor c p u → AreFirst u blocks
       → AreTree c Blocks (body_of c p) blocks
   body_tree p u blocks s here =
       let r = region_listed c s.view.regions u.regions s.regions 0 blocks here in
@@ -47,20 +48,20 @@ module _ (c : InterpretedProgram) where
       subst (λ (bs : List (Ptr BasicBlock)). AreTree c Blocks bs blocks) (sym is) r.2.listed
 
   -- an operation, and its site in the tree of the root
-  pub record IsSeenAt (t : ExecutedTree) (p : Ptr Operation) (s : KitSite) : Type 0 where
+  pub record IsSeenAt (t : KitTree) (p : Ptr Operation) (s : KitSite) : Type 0 where
     pub reached : IsReached t s
     pub tree : StandsFor c p s.op
 
   -- an operation in a block of the first region of another one
-  pub record IsInner (t : ExecutedTree) (s : KitSite) (blocks : KitBlocks) (j k : ℕ) (b : Ptr BasicBlock) (q : Ptr Operation) : Type 0 where
+  pub record IsInner (t : KitTree) (s : KitSite) (blocks : KitBlocks) (j k : ℕ) (b : Ptr BasicBlock) (q : Ptr Operation) : Type 0 where
     pub body : KitBody
     pub is : IsBody c b body
     pub block_here : slice_get (block_list blocks) j ≡ Some body
-    pub op : ExecutedTree
+    pub op : KitTree
     pub op_here : slice_get (operation_list body.operations) k ≡ Some op
     pub seen : IsSeenAt t q (step_to s (outer_if s.around) blocks j body k op)
 
-  pub inner : (t : ExecutedTree) (p : Ptr Operation) (s : KitSite) → IsSeenAt t p s → (blocks : KitBlocks) → AreFirst s.op blocks
+  pub inner : (t : KitTree) (p : Ptr Operation) (s : KitSite) → IsSeenAt t p s → (blocks : KitBlocks) → AreFirst s.op blocks
       → (j k : ℕ) (b : Ptr BasicBlock) (q : Ptr Operation) → slice_get (body_of c p) j ≡ Some b
       → slice_get (operations_in c b) k ≡ Some q → IsInner t s blocks j k b q
   inner t p s at blocks first j k b q hb hq =
@@ -82,7 +83,7 @@ module _ (c : InterpretedProgram) where
 -- ---- modules
 
 -- the one block of a module, which its members are in
-pub record IsModuleBody (c : InterpretedProgram) (m : Ptr Operation) (u : ExecutedTree) : Type 0 where
+pub record IsModuleBody (c : KitProgram) (m : Ptr Operation) (u : KitTree) : Type 0 where
   pub blocks : KitBlocks
   pub first : AreFirst u blocks
   pub body : KitBody
@@ -97,7 +98,7 @@ one_listed : {X Y : Type 0} (f : X → Y) (xs : List X) (y : Y) → map f xs ≡
 one_listed f [] y h = cc
 one_listed f (x ∷ xs) y h = let e : f x ≡ y = cc in (x, refl, e)
 
-pub module_body : (c : InterpretedProgram) (m : Ptr Operation) (u : ExecutedTree) → StandsFor c m u → HasModuleBody u → IsModuleBody c m u
+pub module_body : (c : KitProgram) (m : Ptr Operation) (u : KitTree) → StandsFor c m u → HasModuleBody u → IsModuleBody c m u
 module_body c m u s has =
     let r = one_listed block_list (region_list u.regions) (has.body ∷ []) has.one in
     let at : slice_get (block_list r.0) 0 ≡ Some has.body = ap (λ (l : List KitBody). slice_get l 0) r.2 in
@@ -124,7 +125,7 @@ in_first_region (r ∷ rs) blocks body h has =
     has_front (block_list r) (joined (map block_list rs)) body (subst (λ (bs : KitBlocks). Has body (block_list bs)) same has)
 
 -- what holds of the blocks of all regions holds of those of the first
-pub every_first : (P : KitBody → Type 0) (u : ExecutedTree) (blocks : KitBlocks) → AreFirst u blocks → Every P (bodies_of u) → Every P (block_list blocks)
+pub every_first : (P : KitBody → Type 0) (u : KitTree) (blocks : KitBlocks) → AreFirst u blocks → Every P (bodies_of u) → Every P (block_list blocks)
 every_first P u blocks first every k body here =
     every_has P (bodies_of u) every body (in_first_region (region_list u.regions) blocks body first (at_has (block_list blocks) k body here))
 

@@ -12,6 +12,7 @@ use Rattle.ir_program.specs.declared.handles.BasicBlock.{BasicBlock}
 use Rattle.ir_program.specs.declared.handles.Value.{Value}
 use Rattle.ir_trees.specs.Searched.{Lists}
 use Rattle.ir_trees.specs.Stands.{StandsFor}
+use Rattle.kit.specs.Context.{KitContext, KitTree}
 use Rattle.kit_ops.specs.Keys as keys
 use Rattle.kit_ops.specs.declared.attributes.IntegerAttr.{IntegerAttr}
 use Rattle.kit_ops.specs.declared.attributes.KitAttr.{KitAttr}
@@ -27,8 +28,7 @@ use Rattle.kit_checks.specs.Words.{Every, IsValueType, integer_of, integer_in, i
 use Rattle.kit_checks.specs.World.{world_of}
 use Rattle.kit_checks.proofs.Everys.{at_index}
 use Rattle.kit_checks.proofs.Trees.{result_types}
-use Rattle.kit_places.specs.Store.{InterpretedContext, width_of, width_at, constant_form, by_sizes, conditional_form, call_form, form_of}
-use Rattle.kit_execution.specs.Obeying.{ExecutedTree}
+use Rattle.kit_places.specs.Store.{width_of, width_at, constant_form, by_sizes, conditional_form, call_form, form_of}
 use Rattle.kit_execution.proofs.Shapes.{FormGoesOn, constant_runs, calculation_runs, comparison_runs, emission_runs, call_runs, branch_runs, conditional_runs, return_runs}
 use Rattle.kit_execution.proofs.Words.{tree_attribute}
 
@@ -60,7 +60,7 @@ width_is (Some (types.Integer x)) t h few =
 width_is _ t h few = cc
 
 -- the first of values that are integers has a width
-pub has_width : (s : InterpretedContext) (q : Ptr Operation) (u : ExecutedTree) → StandsFor s.program q u → Every (IsValueType (world_of s)) (types_of u.head.results)
+pub has_width : (s : KitContext) (q : Ptr Operation) (u : KitTree) → StandsFor s.program q u → Every (IsValueType (world_of s)) (types_of u.head.results)
     → length u.head.results ≡ 1 → (n : ℕ) × (option_and_then (width_at s) (type_in (results_at s.program q) 0) ≡ Some n)
 has_width s q u stands integers one =
     let d = at_index u.head.results 0 (omega (arith, one)) in
@@ -72,7 +72,7 @@ has_width s q u stands integers one =
 
 -- ---- operations
 
-module _ (s : InterpretedContext) (u : ExecutedTree) (named : List ℕ → Option (Ptr Operation)) (width : Option ℕ)
+module _ (s : KitContext) (u : KitTree) (named : List ℕ → Option (Ptr Operation)) (width : Option ℕ)
     (Behind : Type 0) (Target : Ptr BasicBlock → Type 0) (Callee : Ptr Operation → Type 0) where
   -- what the rules say of an operation of a kind
   pub record IsRuled (k : KitOp) : Type 0 where

@@ -13,15 +13,16 @@ use Rattle.ir_trees.specs.Renames.{names_of}
 use Rattle.ir_trees.specs.Searched.{Lists}
 use Rattle.ir_trees.specs.Stands.{AreTree, StandsFor, defined_by, head_of}
 use Rattle.ir_trees.specs.Trees.{Operations, Blocks}
+use Rattle.kit.specs.Context.{KitContext, KitTree}
+use Rattle.kit.specs.Meaning.{KitBlock, KitOperation}
 use Rattle.kit_behaviour.specs.Machine as flat
 use Rattle.kit_behaviour.specs.Rules.{AllEdgesFit}
 use Rattle.kit_checks.specs.Sites.{Listed, region_list}
-use Rattle.kit_execution.specs.Obeying.{ExecutedTree}
 use Rattle.kit_execution.proofs.Bodies.{KitBlocks, body_tree}
 use Rattle.kit_flat.specs.Machine as machine
 use Rattle.kit_interpreter.specs.Lowering.{CanRun}
 use Rattle.kit_places.specs.Numbers.{values_of}
-use Rattle.kit_places.specs.Store.{KitData, KitNotes, InterpretedContext, body_of, op_at, block_seen, module_code}
+use Rattle.kit_places.specs.Store.{body_of, op_at, block_seen, module_code}
 use Rattle.kit_places.specs.Store.{function_named}
 use Rattle.kit_views.specs.FlatView.{AreOps, AreFlatBlocks, FlattensTo, names_in}
 use Rattle.kit_views.specs.Reading.{Reading, kit_contents, kit_reading}
@@ -45,13 +46,13 @@ edges_from f None i h = tt
 edges_from f (Some b) i h = edges_dropped f b.ops i h
 
 -- the tree lists these blocks
-names_are : (s : InterpretedContext) (bs : List (Ptr BasicBlock)) (tree : KitBlocks) → AreTree s.program Blocks bs tree →
+names_are : (s : KitContext) (bs : List (Ptr BasicBlock)) (tree : KitBlocks) → AreTree s.program Blocks bs tree →
     names_in tree ≡ bs
 names_are s _ _ AreTree.no_blocks = refl
 names_are s _ _ (AreTree.first_block b bs v os rest there inside behind) =
     ap (λ l. b ∷ l) (names_are s bs rest behind)
 
-module _ (s : InterpretedContext) (m : Ptr Operation) (blocks : List (Ptr BasicBlock)) (named : Names) (numbered : List ℕ → ℕ)
+module _ (s : KitContext) (m : Ptr Operation) (blocks : List (Ptr BasicBlock)) (named : Names) (numbered : List ℕ → ℕ)
     (agree : (text : List ℕ) → named (numbered text) ≡ function_named s.program m text) where
   abbrev reading : Reading kit_contents
   reading = kit_reading (key_at s.types) numbered
@@ -62,14 +63,14 @@ module _ (s : InterpretedContext) (m : Ptr Operation) (blocks : List (Ptr BasicB
   abbrev code : machine.Code Value (Ptr BasicBlock) (Ptr Operation)
   code = module_code s m
 
-  ops_seen : (ps : List (Ptr Operation)) (os : Listed KitData KitNotes Operations) →
+  ops_seen : (ps : List (Ptr Operation)) (os : Listed KitOperation KitBlock Operations) →
       AreTree s.program Operations ps os → (fs : List FlatOp) → AreOps reading blocks os fs →
       ((q : Ptr Operation) → Lists ps q → op_at s m q ≢ machine.Other) → map (op_at s m) ps ≡ map see fs
   ops_seen _ _ AreTree.no_operations [] are executes = refl
   ops_seen _ _ AreTree.no_operations (f ∷ fs) are executes = absurd are
   ops_seen _ _ (AreTree.first_operation p ps v rs rest there inside behind) [] are executes = absurd are
   ops_seen _ _ (AreTree.first_operation p ps v rs rest there inside behind) (f ∷ fs) are executes =
-      let tree : ExecutedTree = record { head = head_of p v; regions = rs } in
+      let tree : KitTree = record { head = head_of p v; regions = rs } in
       let first : op_at s m p ≡ see f =
       op_seen s m p tree (record { view = v; there = there; head = refl; regions = inside }) blocks named numbered agree
       (executes p (0, refl)) f are.1 in
@@ -92,7 +93,7 @@ module _ (s : InterpretedContext) (m : Ptr Operation) (blocks : List (Ptr BasicB
   blocks_seen _ _ (AreTree.first_block c bs v os rest there inside behind) (k ∷ ks) are executes zero b at =
       let same : c ≡ b = cc at in
       let listed : operations_in s.program c ≡ v.operations =
-      ap (λ o. unwrap_or (option_map (λ (w : BlockView KitNotes). w.operations) o) []) there in
+      ap (λ o. unwrap_or (option_map (λ (w : BlockView KitBlock). w.operations) o) []) there in
       let all : map (op_at s m) v.operations ≡ map see k.ops = ops_seen v.operations os inside k.ops are.1
       (λ q l. executes c q (0, refl) (l.0, ap (λ (ps : List (Ptr Operation)). slice_get ps l.0) listed ∙ l.1)) in
       subst (λ d. IsBlockSeenAs d (Some k)) same
@@ -113,9 +114,9 @@ module _ (s : InterpretedContext) (m : Ptr Operation) (blocks : List (Ptr BasicB
   as_many _ _ (AreTree.first_block c bs v os rest there inside behind) (k ∷ ks) are =
       ap suc (as_many bs rest behind ks are.2)
 
-module _ (s : InterpretedContext) (m : Ptr Operation) (named : Names) (numbered : List ℕ → ℕ)
+module _ (s : KitContext) (m : Ptr Operation) (named : Names) (numbered : List ℕ → ℕ)
     (agree : (text : List ℕ) → named (numbered text) ≡ function_named s.program m text) (f : Ptr Operation)
-    (u : ExecutedTree) (stands : StandsFor s.program f u) (k : flat.Fun Value)
+    (u : KitTree) (stands : StandsFor s.program f u) (k : flat.Fun Value)
     (view : FlattensTo (kit_reading (key_at s.types) numbered) u k) (runs : CanRun s m f) where
   tree : AreTree s.program Blocks (body_of s.program f) view.view.blocks
   tree = body_tree s.program f u view.view.blocks stands (ap (λ rs. slice_get (region_list rs) 0) view.view.region)

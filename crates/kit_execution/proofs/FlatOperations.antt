@@ -16,6 +16,7 @@ use Rattle.ir_program.specs.declared.handles.BasicBlock.{BasicBlock}
 use Rattle.ir_program.specs.declared.handles.Value.{Value}
 use Rattle.ir_trees.specs.Renames.{names_of}
 use Rattle.ir_trees.specs.Stands.{StandsFor}
+use Rattle.kit.specs.Context.{KitContext, KitTree}
 use Rattle.kit_ops.specs.Keys as keys
 use Rattle.kit_ops.specs.declared.attributes.KitAttr.{KitAttr}
 use Rattle.kit_ops.specs.declared.attributes.KitAttr.TheVariants as attrs
@@ -25,17 +26,16 @@ use Rattle.kit_ops.specs.declared.kinds.KitOp.{KitOp}
 use Rattle.kit_ops.specs.declared.kinds.KitOp.TheVariants as ops
 use Rattle.kit_ops.specs.declared.types.KitType.{KitType}
 use Rattle.kit_ops.specs.declared.types.KitType.TheVariants as types
-use Rattle.kit.specs.Meaning.{sizes_in}
+use Rattle.kit.specs.Meaning.{sizes_in, KitOperation}
 use Rattle.kit_behaviour.specs.Machine as flat
 use Rattle.kit_checks.specs.Words as words
 use Rattle.kit_checks.proofs.Trees.{result_types, operands_are, successors_are}
-use Rattle.kit_execution.specs.Obeying.{ExecutedTree}
 use Rattle.kit_execution.proofs.Values.{result_values}
 use Rattle.kit_execution.proofs.Words.{KitOperationNotes, tree_attribute, payload_is}
 use Rattle.kit_flat.specs.Forms.{Calculate, Call}
 use Rattle.kit_flat.specs.Machine as machine
 use Rattle.kit_places.specs.Numbers.{block_with}
-use Rattle.kit_places.specs.Store.{KitData, InterpretedContext, width_of, width_at, constant_form, by_sizes}
+use Rattle.kit_places.specs.Store.{width_of, width_at, constant_form, by_sizes}
 use Rattle.kit_places.specs.Store.{conditional_form, call_form, form_of, form_at, op_if, op_at, function_named}
 use Rattle.kit_views.specs.FlatView.{IsOf, IsOp}
 use Rattle.kit_views.specs.Reading.{kit_reading, number_in, named_in, integer_of}
@@ -148,7 +148,7 @@ module _ (x : Value) (one two : List Value) (b d : Ptr BasicBlock) where
 
 -- ---- operations
 
-module _ (s : InterpretedContext) (m q : Ptr Operation) (u : ExecutedTree) (stands : StandsFor s.program q u) where
+module _ (s : KitContext) (m q : Ptr Operation) (u : KitTree) (stands : StandsFor s.program q u) where
   abbrev first_width : Option ℕ
   first_width = option_and_then (width_at s) (type_in (results_at s.program q) 0)
 
@@ -160,10 +160,10 @@ module _ (s : InterpretedContext) (m q : Ptr Operation) (u : ExecutedTree) (stan
   op_is =
       let form : form_at s m q ≡ form_of u.head.content.kind (tree_attribute u) first_width
       (function_named s.program m) =
-      ap (λ (o : Option KitData). option_and_then
+      ap (λ (o : Option KitOperation). option_and_then
       (λ kind. form_of kind (λ key. option_and_then (λ (n : KitOperationNotes). attribute_at n.attributes key)
-      (option_map (λ (d : KitData). d.notes) o)) first_width (function_named s.program m))
-      (option_map (λ (d : KitData). d.kind) o)) (payload_is s.program q u stands) in
+      (option_map (λ (d : KitOperation). d.notes) o)) first_width (function_named s.program m))
+      (option_map (λ (d : KitOperation). d.kind) o)) (payload_is s.program q u stands) in
       λ i. op_if (form i) (sym (result_values s.program q u stands) i) (sym (operands_are s.program q u stands) i)
       (sym (successors_are s.program q u stands) i)
 

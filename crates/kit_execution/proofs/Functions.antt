@@ -14,6 +14,8 @@ use Rattle.ir_program.specs.declared.handles.Value.{Value}
 use Rattle.ir_trees.specs.Searched.{Lists}
 use Rattle.ir_trees.specs.Stands.{AreTree, StandsFor}
 use Rattle.ir_trees.specs.Trees.{Blocks}
+use Rattle.kit.specs.Context.{KitContext, KitTree}
+use Rattle.kit.specs.Meaning.{KitBlock, KitOperation}
 use Rattle.kit_ops.specs.Keys as keys
 use Rattle.kit_ops.specs.declared.kinds.KitOp.{KitOp}
 use Rattle.kit_ops.specs.declared.kinds.KitOp.TheVariants as ops
@@ -29,10 +31,9 @@ use Rattle.kit_checks.proofs.Down.{step_to, operation_listed, operations_are}
 use Rattle.kit_checks.proofs.Trees.{operands_are, successors_are, operation_count}
 use Rattle.kit_checks.proofs.Upward.{block_tree}
 use Rattle.kit_places.specs.Numbers.{values_of}
-use Rattle.kit_places.specs.Store.{KitData, KitNotes, InterpretedContext, body_of, members, function_named, is_function_named, width_at, form_of, form_at, op_if, op_at}
+use Rattle.kit_places.specs.Store.{body_of, members, function_named, is_function_named, width_at, form_of, form_at, op_if, op_at}
 use Rattle.kit_interpreter.specs.Lowering.{IsValueIn, CanRun, FunctionsCanRun}
 use Rattle.kit_places.proofs.Located.{first_listed}
-use Rattle.kit_execution.specs.Obeying.{ExecutedTree}
 use Rattle.kit_execution.proofs.Reached.{outer_if, IsReached}
 use Rattle.kit_execution.proofs.First.{first_passes, passing_found}
 use Rattle.kit_execution.proofs.Words.{KitOperationNotes, tree_attribute, payload_is, function_kind, function_passes}
@@ -43,18 +44,18 @@ use Rattle.kit_execution.proofs.Safe.{IsCallee, IsSafe}
 use Rattle.kit_execution.proofs.Shapes.{GoesOn, is_executed}
 
 -- what the machine sees of an operation, by the tree that it stands for
-op_is : (s : InterpretedContext) (m q : Ptr Operation) (u : ExecutedTree) → StandsFor s.program q u
+op_is : (s : KitContext) (m q : Ptr Operation) (u : KitTree) → StandsFor s.program q u
     → op_at s m q ≡ op_if (form_of u.head.content.kind (tree_attribute u) (option_and_then (width_at s) (type_in (results_at s.program q) 0)) (function_named s.program m))
     (values_of (results_at s.program q)) u.head.operands u.head.successors
 op_is s m q u stands =
     let form : form_at s m q ≡ form_of u.head.content.kind (tree_attribute u) (option_and_then (width_at s) (type_in (results_at s.program q) 0)) (function_named s.program m) =
-    ap (λ (o : Option KitData). option_and_then
-    (λ kind. form_of kind (λ key. option_and_then (λ (n : KitOperationNotes). attribute_at n.attributes key) (option_map (λ (d : KitData). d.notes) o))
+    ap (λ (o : Option KitOperation). option_and_then
+    (λ kind. form_of kind (λ key. option_and_then (λ (n : KitOperationNotes). attribute_at n.attributes key) (option_map (λ (d : KitOperation). d.notes) o))
     (option_and_then (width_at s) (type_in (results_at s.program q) 0)) (function_named s.program m))
-    (option_map (λ (d : KitData). d.kind) o)) (payload_is s.program q u stands) in
+    (option_map (λ (d : KitOperation). d.kind) o)) (payload_is s.program q u stands) in
     λ i. op_if (form i) (values_of (results_at s.program q)) (sym (operands_are s.program q u stands) i) (sym (successors_are s.program q u stands) i)
 
-module _ (s : InterpretedContext) (t : ExecutedTree) (obeys : (r : Rule) → KeptEverywhere (world_of s) t r) where
+module _ (s : KitContext) (t : KitTree) (obeys : (r : Rule) → KeptEverywhere (world_of s) t r) where
   pub keeps : (x : KitSite) → IsReached t x → (r : Rule) → Keeps (world_of s) r x
   keeps x at r = obeys r at.place x at.there
 
@@ -73,11 +74,11 @@ module _ (s : InterpretedContext) (t : ExecutedTree) (obeys : (r : Rule) → Kep
         (subst (λ (l : List (Ptr Operation)). slice_get l k ≡ Some p) body.members_are h)
 
     -- a function of its tree is found in it by its name
-    found : (u : ExecutedTree) → Lists (members_of x.op) u → (name : List ℕ) → u.head.content.kind ≡ ops.Func
+    found : (u : KitTree) → Lists (members_of x.op) u → (name : List ℕ) → u.head.content.kind ≡ ops.Func
         → option_and_then identifier_in (tree_attribute u keys.symbol_name) ≡ Some name → (g : Ptr Operation) × (function_named s.program m name ≡ Some g)
     found u l name kind named =
         let here : slice_get (operation_list body.body.operations) l.0 ≡ Some u =
-        ap (λ (us : List ExecutedTree). slice_get us l.0) (sym (body.all ∙ append-nil (operation_list body.body.operations))) ∙ l.1 in
+        ap (λ (us : List KitTree). slice_get us l.0) (sym (body.all ∙ append-nil (operation_list body.body.operations))) ∙ l.1 in
         let it = operation_listed s.program body.is.view.operations body.body.operations body.is.operations l.0 u here in
         let at_member : slice_get (members s.program m) l.0 ≡ Some u.head.name =
         ap (λ (ps : List (Ptr Operation)). slice_get ps l.0) (body.members_are ∙ sym (operations_are s.program body.block body.body body.is)) ∙ it.0 in
@@ -123,7 +124,7 @@ module _ (s : InterpretedContext) (t : ExecutedTree) (obeys : (r : Rule) → Kep
         it : IsInner s.program t site blocks.0 in_b.0 in_q.0 b q
         it = inner s.program t f site function.seen blocks.0 blocks.1 in_b.0 in_q.0 b q in_b.1 in_q.1
 
-        abbrev around : Around KitData KitNotes
+        abbrev around : Around KitOperation KitBlock
         around = record { owner = function.op; outer = outer_if site.around; blocks = blocks.0; number = in_b.0; body = it.body; index = in_q.0 }
 
         abbrev place : KitSite
@@ -140,7 +141,7 @@ module _ (s : InterpretedContext) (t : ExecutedTree) (obeys : (r : Rule) → Kep
             let listed : slice_get it.op.head.successors l.0 ≡ Some d = ap (λ (bs : List (Ptr BasicBlock)). slice_get bs l.0) (successors_are s.program q it.op it.seen.tree) ∙ l.1 in
             let edge = keeps place it.seen.reached rule.EdgesFit l.0 d listed in
             let same : edge.0 ≡ around = sym (same_Some around edge.0 edge.1) in
-            let in_blocks : Lists (block_list blocks.0) edge.2.body = subst (λ (a : Around KitData KitNotes). Lists (block_list a.blocks) edge.2.body) same edge.2.here in
+            let in_blocks : Lists (block_list blocks.0) edge.2.body = subst (λ (a : Around KitOperation KitBlock). Lists (block_list a.blocks) edge.2.body) same edge.2.here in
             subst (Lists (body_of s.program f)) edge.2.named (block_there s.program f blocks.0 tree in_blocks.0 edge.2.body in_blocks.1).0
 
         called : it.op.head.content.kind ≡ ops.Call
@@ -151,7 +152,7 @@ module _ (s : InterpretedContext) (t : ExecutedTree) (obeys : (r : Rule) → Kep
             let same : call.0 ≡ around = sym (same_Some around call.0 call.1) in
             let calls : CallsFunction (world_of s) it.op around = subst (CallsFunction (world_of s) it.op) same call.2 in
             let scope : calls.scope ≡ x.op = sym (same_Some x.op calls.scope (sym nearest_is ∙ calls.nearest)) in
-            let g = found calls.function (subst (λ (u : ExecutedTree). Lists (members_of u) calls.function) scope calls.member) calls.name calls.is_function calls.named in
+            let g = found calls.function (subst (λ (u : KitTree). Lists (members_of u) calls.function) scope calls.member) calls.name calls.is_function calls.named in
             (calls.name, g.0, calls.has_name, g.1, (calls.name, g.1))
 
         -- one that ends no block isn't the last there

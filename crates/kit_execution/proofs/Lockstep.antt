@@ -8,13 +8,14 @@ use Rattle.ir_program.specs.declared.handles.Ptr.{Ptr}
 use Rattle.ir_program.specs.declared.handles.Operation.{Operation}
 use Rattle.ir_program.specs.declared.handles.BasicBlock.{BasicBlock}
 use Rattle.ir_program.specs.declared.handles.Value.{Value}
+use Rattle.kit.specs.Context.{KitContext}
 use Rattle.kit_ops.specs.Arithmetic.{calc, compare, bit}
 use Rattle.kit_behaviour.specs.Machine as flat
 use Rattle.kit_behaviour.specs.Rules.{EdgeFits, AllEdgesFit}
 use Rattle.kit_execution.specs.Moving.{HasExecuted, Moves}
 use Rattle.kit_flat.specs.Machine as machine
 use Rattle.kit_places.specs.Numbers.{block_with}
-use Rattle.kit_places.specs.Store.{InterpretedContext, body_of, module_code}
+use Rattle.kit_places.specs.Store.{body_of, module_code}
 use Rattle.kit_execution.specs.Outcomes.{SameOutcome}
 
 -- ---- operations
@@ -80,7 +81,7 @@ SeenFrame = machine.MachineFrame Value (Ptr BasicBlock) (Ptr Operation)
 abbrev pub SeenState : Type 0
 SeenState = machine.MachineState Value (Ptr BasicBlock) (Ptr Operation)
 
-module _ (s : InterpretedContext) (m : Ptr Operation) where
+module _ (s : KitContext) (m : Ptr Operation) where
   abbrev code : machine.Code Value (Ptr BasicBlock) (Ptr Operation)
   code = module_code s m
 

@@ -8,11 +8,13 @@ use Rattle.ir_program.specs.declared.handles.Operation.{Operation}
 use Rattle.ir_program.specs.declared.handles.BasicBlock.{BasicBlock}
 use Rattle.ir_program.specs.declared.handles.Value.{Value}
 use Rattle.ir_trees.specs.Searched.{Lists}
+use Rattle.kit.specs.Context.{KitContext}
+use Rattle.kit.specs.Meaning.{KitBlock}
 use Rattle.kit_ops.specs.Arithmetic.{calc, compare, bit}
 use Rattle.kit_flat.specs.Machine as machine
 use Rattle.kit_flat.specs.Machine.{Other, Code, MachineEdge, MachineFrame, MachineState, Going, Ended, Trapped, next, follow, chosen, with_result, effect, after, first_frame, on_top, returned, operations_from, rest_of, step, run, start}
 use Rattle.kit_checks.proofs.Everys.{at_index}
-use Rattle.kit_places.specs.Store.{InterpretedContext, KitNotes, body_of, block_seen, module_code, op_at}
+use Rattle.kit_places.specs.Store.{body_of, block_seen, module_code, op_at}
 use Rattle.kit_execution.specs.Moving.{HasExecuted, Moves}
 use Rattle.kit_execution.proofs.Safe.{IsCallee, IsSafe}
 use Rattle.kit_execution.proofs.Shapes.{KitSeen, GoesOn}
@@ -35,7 +37,7 @@ dropped g [] i x h = cc
 dropped g (y ∷ ys) zero x h = let same : y ≡ x = cc in (map g ys, ap (λ z. g z ∷ map g ys) same)
 dropped g (y ∷ ys) (suc i) x h = dropped g ys i x h
 
-module _ (s : InterpretedContext) (m : Ptr Operation) (safe : (g : Ptr Operation) → IsCallee s m g → IsSafe s m g) where
+module _ (s : KitContext) (m : Ptr Operation) (safe : (g : Ptr Operation) → IsCallee s m g → IsSafe s m g) where
   abbrev code : KitCode
   code = module_code s m
 
@@ -120,14 +122,14 @@ module _ (s : InterpretedContext) (m : Ptr Operation) (safe : (g : Ptr Operation
     goes_well Other rest none = absurd none
 
     -- what is left in the block begins with an operation
-    left : (o : Option (BlockView KitNotes)) → block_at s.program f.block ≡ o → IsSome o → GoesWell (rest_of code f)
+    left : (o : Option (BlockView KitBlock)) → block_at s.program f.block ≡ o → IsSome o → GoesWell (rest_of code f)
     left None is some = absurd (cc)
     left (Some v) is some =
-        let listed : operations_in s.program f.block ≡ v.operations = ap (λ o. unwrap_or (option_map (λ (w : BlockView KitNotes). w.operations) o) []) is in
+        let listed : operations_in s.program f.block ≡ v.operations = ap (λ o. unwrap_or (option_map (λ (w : BlockView KitBlock). w.operations) o) []) is in
         let q = at_index (operations_in s.program f.block) f.index at.here in
         let here : slice_get v.operations f.index ≡ Some q.0 = sym (ap (λ (ps : List (Ptr Operation)). slice_get ps f.index) listed) ∙ q.1 in
         let d = dropped (op_at s m) v.operations f.index q.0 here in
-        let rest : rest_of code f ≡ op_at s m q.0 ∷ d.0 = ap (λ (o : Option (BlockView KitNotes)). operations_from (option_map (block_seen s m) o) f.index) is ∙ d.1 in
+        let rest : rest_of code f ≡ op_at s m q.0 ∷ d.0 = ap (λ (o : Option (BlockView KitBlock)). operations_from (option_map (block_seen s m) o) f.index) is ∙ d.1 in
         subst GoesWell (sym rest) (goes_well (op_at s m q.0) d.0 ((safe f.function at.callee).goes_on f.block f.index q.0 at.listed q.1))
 
     frame_well : GoesWell (rest_of code f)

@@ -7,6 +7,7 @@ use Rattle.ir_context.specs.Kept.{kind_at}
 use Rattle.ir_program.specs.declared.handles.Ptr.{Ptr}
 use Rattle.ir_program.specs.declared.handles.Operation.{Operation}
 use Rattle.ir_trees.specs.Stands.{StandsFor}
+use Rattle.kit.specs.Context.{KitContext, KitTree}
 use Rattle.kit_ops.specs.Keys as keys
 use Rattle.kit_checks.specs.declared.rule.Rule.{Rule}
 use Rattle.kit_checks.specs.declared.rule.Rule.TheVariants as rule
@@ -14,12 +15,12 @@ use Rattle.kit_checks.specs.Faults.{KeptEverywhere}
 use Rattle.kit_checks.specs.World.{world_of}
 use Rattle.kit_checks.proofs.Down.{both, step_to}
 use Rattle.kit_places.specs.declared.places.Place.{Place}
-use Rattle.kit_places.specs.Store.{InterpretedContext, is_name, is_module, attribute_of, members, function_named, module_named, locate}
+use Rattle.kit_places.specs.Store.{is_name, is_module, attribute_of, members, function_named, module_named, locate}
 use Rattle.kit_places.specs.Placed.{place_of}
 use Rattle.kit_interpreter.specs.Lowering.{FunctionsCanRun}
 use Rattle.kit_interpreter.specs.Running.{PathCanRun}
 use Rattle.kit_places.proofs.Located.{first_listed}
-use Rattle.kit_execution.specs.Obeying.{ExecutedTree, ObeysRules}
+use Rattle.kit_execution.specs.Obeying.{ObeysRules}
 use Rattle.kit_execution.specs.Moving.{NeverStays, PathMoves}
 use Rattle.kit_execution.proofs.Reached.{outer_if, root_reached}
 use Rattle.kit_execution.proofs.First.{first_passes}
@@ -29,7 +30,7 @@ use Rattle.kit_execution.proofs.Functions.{keeps, IsModuleAt, body, member, func
 use Rattle.kit_execution.proofs.Safe.{IsCallee}
 use Rattle.kit_execution.proofs.Moves.{moves_on}
 
-module _ (s : InterpretedContext) (t : ExecutedTree) (obeys : (r : Rule) → KeptEverywhere (world_of s) t r) where
+module _ (s : KitContext) (t : KitTree) (obeys : (r : Rule) → KeptEverywhere (world_of s) t r) where
   -- a module in a module
   inner_module : (m : Ptr Operation) (x : KitSite) → IsModuleAt s t obeys m x → (name : List ℕ) (k : Ptr Operation) → module_named s.program m name ≡ Some k
       → (y : KitSite) × IsModuleAt s t obeys k y
@@ -80,7 +81,7 @@ module _ (s : InterpretedContext) (t : ExecutedTree) (obeys : (r : Rule) → Kep
     place_moves = moves_on s p.within (callees_safe s t obeys p.within sited.site sited.at) p.function sited.callee
 
 -- in a module that keeps the rules
-module _ (s : InterpretedContext) (root : Ptr Operation) (obeys : ObeysRules s root) (tree : (t : ExecutedTree) × StandsFor s.program root t) where
+module _ (s : KitContext) (root : Ptr Operation) (obeys : ObeysRules s root) (tree : (t : KitTree) × StandsFor s.program root t) where
   pub can_run : (path : List Identifier) → PathCanRun s root path
   can_run path p is = place_can_run s tree.0 (obeys tree.0 tree.1) root tree.1 path p is
 

@@ -13,18 +13,18 @@ use Rattle.ir_program.specs.declared.handles.Ptr.{Ptr}
 use Rattle.ir_program.specs.declared.handles.Operation.{Operation}
 use Rattle.ir_program.specs.declared.handles.Value.{Value}
 use Rattle.ir_trees.specs.Stands.{by_handle, StandsFor}
+use Rattle.kit.specs.Context.{KitContext, KitTree}
 use Rattle.opt_trees.specs.Occurrences.{at_root}
 use Rattle.kit_behaviour.specs.Machine as flat
 use Rattle.kit_behaviour.specs.Machine.{Fun, FunctionsByPath, Alike}
 use Rattle.kit_behaviour.specs.Numbering.{place_fun, placed, NamesAreDefined}
 use Rattle.kit_behaviour.specs.Places.{Place, same_place}
 use Rattle.kit_behaviour.proofs.Numbering.NumberingBehaviour.{placed_alike}
-use Rattle.kit_execution.specs.Obeying.{ExecutedTree}
 use Rattle.kit_execution.proofs.Paths.{can_run, path_moves}
 use Rattle.kit_flat.specs.Machine as machine
 use Rattle.kit_interpreter.specs.Lowering.{CanRun}
 use Rattle.kit_places.specs.Placed.{place_of}
-use Rattle.kit_places.specs.Store.{InterpretedContext, module_code, function_named}
+use Rattle.kit_places.specs.Store.{module_code, function_named}
 use Rattle.kit_places.specs.declared.places.Place as context
 use Rattle.kit_ruled_views.specs.Paths as tree
 use Rattle.kit_ruled_views.specs.Programs.{HasFunctionView}
@@ -48,21 +48,21 @@ mapped_twice : {X Y Z : Type 0} (f : Y → Z) (g : X → Y) (xs : List X) → ma
 mapped_twice f g [] = refl
 mapped_twice f g (x ∷ xs) = ap (λ l. f (g x) ∷ l) (mapped_twice f g xs)
 
-module _ (s : InterpretedContext) (root : Ptr Operation) (t : ExecutedTree) (numbered : List ℕ → ℕ) (p : FunctionsByPath Place)
+module _ (s : KitContext) (root : Ptr Operation) (t : KitTree) (numbered : List ℕ → ℕ) (p : FunctionsByPath Place)
     (given : IsProgramIn s root t numbered p) where
   -- ---- the program under the names of values
 
-  abbrev IsFlatOf : Option ExecutedTree → Option (Fun Place) → Type 0
+  abbrev IsFlatOf : Option KitTree → Option (Fun Place) → Type 0
   IsFlatOf = HasFunctionView {N = by_handle} same_value (key_at s.types) numbered
 
-  abbrev flat_of : (o : Option ExecutedTree) (g : Option (Fun Place)) → IsFlatOf o g → Option (Fun Value)
+  abbrev flat_of : (o : Option KitTree) (g : Option (Fun Place)) → IsFlatOf o g → Option (Fun Value)
   flat_of None g is = None
   flat_of (Some u) g is = Some is.0
 
   abbrev pub handled : FunctionsByPath Value
   handled path = flat_of (tree.locate numbered (reverse path) t) (p path) (given.is path)
 
-  flat_placed : (o : Option ExecutedTree) (g : Option (Fun Place)) (is : IsFlatOf o g) →
+  flat_placed : (o : Option KitTree) (g : Option (Fun Place)) (is : IsFlatOf o g) →
       g ≡ place_fun same_value (flat_of o g is)
   flat_placed None g is = is
   flat_placed (Some u) g is = is.2
@@ -75,14 +75,14 @@ module _ (s : InterpretedContext) (root : Ptr Operation) (t : ExecutedTree) (num
       given.types
 
   -- what a path leads to is typed
-  pub function_typed : (path : List ℕ) (u : ExecutedTree) → tree.locate numbered path t ≡ Some u →
+  pub function_typed : (path : List ℕ) (u : KitTree) → tree.locate numbered path t ≡ Some u →
       IsTyped (key_at s.types) {N = by_handle} (type_or_first (type_at s.program)) u
   function_typed path u e =
       let l = located numbered path t (at_root t) u e in
       subst (IsTyped (key_at s.types) {N = by_handle} (type_or_first (type_at s.program))) l.is
       (sound.functions l.it l.stands l.kind).is_typed
 
-  flat_names : (path : List ℕ) (o : Option ExecutedTree) → tree.locate numbered path t ≡ o → (g : Option (Fun Place))
+  flat_names : (path : List ℕ) (o : Option KitTree) → tree.locate numbered path t ≡ o → (g : Option (Fun Place))
       (is : IsFlatOf o g) → NamesAreDefined same_value (flat_of o g is)
   flat_names path None e g is = record { ops = λ b. tt; arguments = λ b. tt }
   flat_names path (Some u) e g is =
@@ -113,7 +113,7 @@ module _ (s : InterpretedContext) (root : Ptr Operation) (t : ExecutedTree) (num
       (tree.locate numbered l t)) (texts_are path ∙ sym (path_back path))
       (paths_agree s.program numbered given.numbering root t given.stands (map text_of path))
 
-  meets : (path : List (List ℕ)) (x : Option context.Place) (o : Option ExecutedTree) (g : Option (Fun Place)) →
+  meets : (path : List (List ℕ)) (x : Option context.Place) (o : Option KitTree) (g : Option (Fun Place)) →
       IsFlatOf o g → PathsAgree s.program numbered given.numbering t path x o → ExistTogether x g
   meets path None None g is agree = is
   meets path None (Some u) g is agree = absurd agree
@@ -125,9 +125,9 @@ module _ (s : InterpretedContext) (root : Ptr Operation) (t : ExecutedTree) (num
       (tree.locate numbered (reverse (program_path numbered path)) t) (p (program_path numbered path))
       (given.is (program_path numbered path)) (agreed path)
 
-  pub led : (path : List (List ℕ)) (x : Option context.Place) (o : Option ExecutedTree) →
+  pub led : (path : List (List ℕ)) (x : Option context.Place) (o : Option KitTree) →
       PathsAgree s.program numbered given.numbering t path x o → (place : context.Place) → x ≡ Some place →
-      (u : ExecutedTree) × IsLed s.program numbered given.numbering t path place u
+      (u : KitTree) × IsLed s.program numbered given.numbering t path place u
   led path None o agree place is = absurd (cc is)
   led path (Some x) None agree place is = absurd agree
   led path (Some x) (Some u) agree place is =
@@ -135,7 +135,7 @@ module _ (s : InterpretedContext) (root : Ptr Operation) (t : ExecutedTree) (num
       (u, subst (λ z. IsLed s.program numbered given.numbering t path z u) same agree)
 
   module _ (path : List Identifier) (place : context.Place) (is : place_of s root path ≡ Some place) where
-    abbrev leading : (u : ExecutedTree) × IsLed s.program numbered given.numbering t (map text_of path) place u
+    abbrev leading : (u : KitTree) × IsLed s.program numbered given.numbering t (map text_of path) place u
     leading = led (map text_of path) (place_of s root path)
         (tree.locate numbered (reverse (program_path numbered path)) t) (agreed path) place is
 
@@ -170,8 +170,8 @@ module _ (s : InterpretedContext) (root : Ptr Operation) (t : ExecutedTree) (num
         can_run s root given.obeys (t, given.stands) path place is text.0 f
         (sym (agree text.0) ∙ ap named (sym text.1) ∙ found)
 
-    tree_found : (f : Ptr Operation) (x : Option (Ptr Operation)) (o : Option ExecutedTree) → Agree s.program x o →
-        x ≡ Some f → (u : ExecutedTree) × (o ≡ Some u) × StandsFor s.program f u
+    tree_found : (f : Ptr Operation) (x : Option (Ptr Operation)) (o : Option KitTree) → Agree s.program x o →
+        x ≡ Some f → (u : KitTree) × (o ≡ Some u) × StandsFor s.program f u
     tree_found f None o both e = absurd (cc e)
     tree_found f (Some g) None both e = absurd both
     tree_found f (Some g) (Some u) both e =
@@ -180,15 +180,15 @@ module _ (s : InterpretedContext) (root : Ptr Operation) (t : ExecutedTree) (num
 
     -- the tree of a function of the module
     pub function_tree : (name : ℕ) (f : Ptr Operation) → named name ≡ Some f →
-        (u : ExecutedTree) × (tree.locate numbered (reverse (name ∷ within)) t ≡ Some u) × StandsFor s.program f u
+        (u : KitTree) × (tree.locate numbered (reverse (name ∷ within)) t ≡ Some u) × StandsFor s.program f u
     function_tree name f found =
         let u = tree_found f (named name)
         (tree.first_with (tree.is_function_named numbered name) (tree.members_in it.module_tree.regions))
         (functions_agree s.program numbered place.within it.module_tree it.module_stands name) found in
         (u.0, beside_leads name ∙ u.1, u.2)
 
-    seen_of : (f : Ptr Operation) → CanRun s place.within f → (u : ExecutedTree) → StandsFor s.program f u →
-        (o : Option ExecutedTree) → o ≡ Some u → (g : Option (Fun Place)) (is : IsFlatOf o g) →
+    seen_of : (f : Ptr Operation) → CanRun s place.within f → (u : KitTree) → StandsFor s.program f u →
+        (o : Option KitTree) → o ≡ Some u → (g : Option (Fun Place)) (is : IsFlatOf o g) →
         IsSeenAs s place.within named f (flat_of o g is)
     seen_of f runs u stands None e g is = absurd (cc e)
     seen_of f runs u stands (Some v) e g is =

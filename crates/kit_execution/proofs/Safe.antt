@@ -6,10 +6,11 @@ use Rattle.ir_program.specs.declared.handles.Ptr.{Ptr}
 use Rattle.ir_program.specs.declared.handles.Operation.{Operation}
 use Rattle.ir_program.specs.declared.handles.BasicBlock.{BasicBlock}
 use Rattle.ir_trees.specs.Searched.{Lists}
-use Rattle.kit_places.specs.Store.{InterpretedContext, body_of, function_named, op_at}
+use Rattle.kit.specs.Context.{KitContext}
+use Rattle.kit_places.specs.Store.{body_of, function_named, op_at}
 use Rattle.kit_execution.proofs.Shapes.{GoesOn}
 
-module _ (s : InterpretedContext) (m : Ptr Operation) where
+module _ (s : KitContext) (m : Ptr Operation) where
   -- some name finds the function
   abbrev pub IsCallee : Ptr Operation → Type 0
   IsCallee g = (name : List ℕ) × (function_named s.program m name ≡ Some g)

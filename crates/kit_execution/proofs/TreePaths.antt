@@ -17,21 +17,21 @@ use Rattle.ir_program.specs.declared.handles.Region.{Region}
 use Rattle.ir_program.specs.declared.handles.BasicBlock.{BasicBlock}
 use Rattle.ir_trees.specs.Stands.{AreTree, StandsFor, head_of}
 use Rattle.ir_trees.specs.Trees.{Operations, Blocks, Regions}
+use Rattle.kit.specs.Context.{KitProgram, KitTree}
 use Rattle.kit_ops.specs.Keys.{symbol_name}
 use Rattle.kit_ops.specs.declared.attributes.KitAttr.{KitAttr}
 use Rattle.kit_ops.specs.declared.attributes.KitAttr.TheVariants as attrs
 use Rattle.kit_ops.specs.declared.kinds.KitOp.{KitOp}
 use Rattle.kit_ops.specs.declared.kinds.KitOp.TheVariants as ops
 use Rattle.kit.specs.Meaning as meaning
-use Rattle.kit.specs.Meaning.{KitOperation}
+use Rattle.kit.specs.Meaning.{KitOperation, KitBlock}
 use Rattle.kit_checks.specs.Sites.{Listed}
 use Rattle.kit_checks.proofs.Down.{regions_are}
-use Rattle.kit_execution.specs.Obeying.{ExecutedTree}
 use Rattle.kit_execution.proofs.Bodies.{KitBlocks}
 use Rattle.kit_execution.proofs.First.{first_passes}
 use Rattle.kit_execution.proofs.Words.{kind_is, attribute_is}
 use Rattle.kit_places.specs.Store as store
-use Rattle.kit_places.specs.Store.{KitData, KitNotes, InterpretedProgram, attribute_of, members, function_named}
+use Rattle.kit_places.specs.Store.{attribute_of, members, function_named}
 use Rattle.kit_places.specs.Store.{module_named}
 use Rattle.kit_places.specs.declared.places.Place.{Place}
 use Rattle.kit_ruled_views.specs.Paths as tree
@@ -65,7 +65,7 @@ same_module : (k : KitOp) → store.is_module (Some k) ≡ meaning.is_module k
 same_module ops.Module = refl
 same_module _ = refl
 
-module _ (c : InterpretedProgram) where
+module _ (c : KitProgram) where
   -- the function with a number among the operations of a module
   abbrev pub is_numbered : (List ℕ → ℕ) → ℕ → Ptr Operation → Bool
   is_numbered numbered n p = store.is_function (kind_at c p) && tree.is_name numbered n (attribute_of c p symbol_name)
@@ -102,21 +102,21 @@ module _ (c : InterpretedProgram) where
   -- ---- members
 
   -- none in both, or one, which the tree stands for
-  abbrev pub Agree : Option (Ptr Operation) → Option ExecutedTree → Type 0
+  abbrev pub Agree : Option (Ptr Operation) → Option KitTree → Type 0
   Agree None None = Unit {0}
   Agree None (Some u) = ⊥
   Agree (Some p) None = ⊥
   Agree (Some p) (Some u) = StandsFor c p u
 
   module _ (test : Ptr Operation → Bool) (tested : KitOperation → Bool)
-      (alike : (p : Ptr Operation) (u : ExecutedTree) → StandsFor c p u → test p ≡ tested u.head.content) where
-    first_both : (ps : List (Ptr Operation)) (os : Listed KitData KitNotes Operations) →
+      (alike : (p : Ptr Operation) (u : KitTree) → StandsFor c p u → test p ≡ tested u.head.content) where
+    first_both : (ps : List (Ptr Operation)) (os : Listed KitOperation KitBlock Operations) →
         AreTree c Operations ps os → Agree (store.first_with test ps) (tree.first_with tested os)
     first_both _ _ AreTree.no_operations = tt
     first_both _ _ (AreTree.first_operation p ps v rs rest there inside behind) =
         by_test (test p) (tested v.payload) (alike p own stands) (first_both ps rest behind)
       where
-        own : ExecutedTree
+        own : KitTree
         own = record { head = head_of p v; regions = rs }
 
         stands : StandsFor c p own
@@ -134,9 +134,9 @@ module _ (c : InterpretedProgram) where
   first_of _ _ AreTree.no_blocks = AreTree.no_operations
   first_of _ _ (AreTree.first_block b bs v os rest there inside behind) =
       subst (λ ps. AreTree c Operations ps os)
-      (sym (ap (λ o. unwrap_or (option_map (λ (w : BlockView KitNotes). w.operations) o) []) there)) inside
+      (sym (ap (λ o. unwrap_or (option_map (λ (w : BlockView KitBlock). w.operations) o) []) there)) inside
 
-  members_of : (rs : List (Ptr Region)) (regions : Listed KitData KitNotes Regions) → AreTree c Regions rs regions →
+  members_of : (rs : List (Ptr Region)) (regions : Listed KitOperation KitBlock Regions) → AreTree c Regions rs regions →
       AreTree c Operations (unwrap_or (option_map (operations_in c)
       (slice_get (unwrap_or (option_map (blocks_in c) (slice_get rs 0)) []) 0)) []) (tree.members_in regions)
   members_of _ _ AreTree.no_regions = AreTree.no_operations
@@ -145,14 +145,14 @@ module _ (c : InterpretedProgram) where
       (sym (ap (λ o. unwrap_or (option_map (λ (w : RegionView). w.blocks) o) []) there)) inside)
 
   -- the members of a module, in its tree
-  members_are : (m : Ptr Operation) (u : ExecutedTree) → StandsFor c m u →
+  members_are : (m : Ptr Operation) (u : KitTree) → StandsFor c m u →
       AreTree c Operations (members c m) (tree.members_in u.regions)
   members_are m u stands =
       subst (λ (rs : List (Ptr Region)). AreTree c Operations (unwrap_or (option_map (operations_in c)
       (slice_get (unwrap_or (option_map (blocks_in c) (slice_get rs 0)) []) 0)) []) (tree.members_in u.regions))
       (regions_are c m u stands) (members_of stands.view.regions u.regions stands.regions)
 
-  module _ (numbered : List ℕ → ℕ) (m : Ptr Operation) (u : ExecutedTree) (stands : StandsFor c m u) (n : ℕ) where
+  module _ (numbered : List ℕ → ℕ) (m : Ptr Operation) (u : KitTree) (stands : StandsFor c m u) (n : ℕ) where
     pub functions_agree : Agree (function_numbered numbered m n)
         (tree.first_with (tree.is_function_named numbered n) (tree.members_in u.regions))
     functions_agree = first_both (is_numbered numbered n) (tree.is_function_named numbered n)
@@ -171,8 +171,8 @@ module _ (c : InterpretedProgram) where
 
   module _ (numbered : List ℕ → ℕ) (apart : NumbersTextsApart numbered) where
     -- a path leads to a function of a module
-    pub record IsLed (t : ExecutedTree) (path : List (List ℕ)) (place : Place) (u : ExecutedTree) : Type 0 where
-      pub module_tree : ExecutedTree
+    pub record IsLed (t : KitTree) (path : List (List ℕ)) (place : Place) (u : KitTree) : Type 0 where
+      pub module_tree : KitTree
       pub module_stands : StandsFor c place.within module_tree
       pub stands : StandsFor c place.function u
       pub before : List ℕ
@@ -182,20 +182,20 @@ module _ (c : InterpretedProgram) where
       pub leads : (n : ℕ) → tree.locate numbered (before ++ n ∷ []) t
           ≡ tree.first_with (tree.is_function_named numbered n) (tree.members_in module_tree.regions)
 
-    abbrev pub PathsAgree : ExecutedTree → List (List ℕ) → Option Place → Option ExecutedTree → Type 0
+    abbrev pub PathsAgree : KitTree → List (List ℕ) → Option Place → Option KitTree → Type 0
     PathsAgree t path None None = Unit {0}
     PathsAgree t path None (Some u) = ⊥
     PathsAgree t path (Some place) None = ⊥
     PathsAgree t path (Some place) (Some u) = IsLed t path place u
 
-    locate_more : (t : ExecutedTree) (x : ℕ) (before : List ℕ) (n : ℕ) →
+    locate_more : (t : KitTree) (x : ℕ) (before : List ℕ) (n : ℕ) →
         tree.locate numbered (x ∷ (before ++ n ∷ [])) t ≡ option_and_then (tree.locate numbered (before ++ n ∷ []))
         (tree.first_with (tree.is_module_named numbered x) (tree.members_in t.regions))
     locate_more t x [] n = refl
     locate_more t x (y ∷ before) n = refl
 
-    last_one : (m : Ptr Operation) (t : ExecutedTree) → StandsFor c m t → (x : List ℕ) (o : Option (Ptr Operation)) →
-        function_numbered numbered m (numbered x) ≡ o → (w : Option ExecutedTree) → Agree o w →
+    last_one : (m : Ptr Operation) (t : KitTree) → StandsFor c m t → (x : List ℕ) (o : Option (Ptr Operation)) →
+        function_numbered numbered m (numbered x) ≡ o → (w : Option KitTree) → Agree o w →
         PathsAgree t (x ∷ []) (option_map (λ f. record { within = m; function = f }) o) w
     last_one m t stands x None is None agree = tt
     last_one m t stands x None is (Some u) agree = absurd agree
@@ -211,9 +211,9 @@ module _ (c : InterpretedProgram) where
       leads = λ n. refl;
     }
 
-    one_more : (t w : ExecutedTree) (x : List ℕ) (path : List (List ℕ)) →
+    one_more : (t w : KitTree) (x : List ℕ) (path : List (List ℕ)) →
         tree.first_with (tree.is_module_named numbered (numbered x)) (tree.members_in t.regions) ≡ Some w →
-        (o : Option Place) (v : Option ExecutedTree) → PathsAgree w path o v → PathsAgree t (x ∷ path) o v
+        (o : Option Place) (v : Option KitTree) → PathsAgree w path o v → PathsAgree t (x ∷ path) o v
     one_more t w x path is None None agree = tt
     one_more t w x path is None (Some u) agree = absurd agree
     one_more t w x path is (Some place) None agree = absurd agree
@@ -229,7 +229,7 @@ module _ (c : InterpretedProgram) where
           ∙ ap (option_and_then (tree.locate numbered (agree.before ++ n ∷ []))) is ∙ agree.leads n;
     }
 
-    pub paths_agree : (m : Ptr Operation) (t : ExecutedTree) → StandsFor c m t → (path : List (List ℕ)) →
+    pub paths_agree : (m : Ptr Operation) (t : KitTree) → StandsFor c m t → (path : List (List ℕ)) →
         PathsAgree t path (store.locate c m path) (tree.locate numbered (map numbered path) t)
     paths_agree m t stands [] = tt
     paths_agree m t stands (x ∷ []) =
@@ -246,9 +246,9 @@ module _ (c : InterpretedProgram) where
         (modules_numbered numbered apart m x) (modules_agree numbered m t stands (numbered x)))
         (λ k w s. paths_agree k w s (y ∷ path))
       where
-        by_module : (o : Option (Ptr Operation)) (w : Option ExecutedTree) →
+        by_module : (o : Option (Ptr Operation)) (w : Option KitTree) →
             tree.first_with (tree.is_module_named numbered (numbered x)) (tree.members_in t.regions) ≡ w → Agree o w →
-            ((k : Ptr Operation) (w : ExecutedTree) → StandsFor c k w →
+            ((k : Ptr Operation) (w : KitTree) → StandsFor c k w →
             PathsAgree w (y ∷ path) (store.locate c k (y ∷ path)) (tree.locate numbered (map numbered (y ∷ path)) w)) →
             PathsAgree t (x ∷ y ∷ path) (option_and_then (λ k. store.locate c k (y ∷ path)) o)
             (option_and_then (tree.locate numbered (map numbered (y ∷ path))) w)

@@ -11,15 +11,16 @@ use Rattle.ir_trees.specs.Searched.{Lists}
 use Rattle.ir_trees.specs.Stands.{ProgramHead, ProgramLabel, AreTree, StandsFor, defined_by}
 use Rattle.ir_trees.specs.Trees.{Blocks}
 use Rattle.ir_trees.proofs.Members.{Has, at_has, has_at, has_either}
+use Rattle.kit.specs.Context.{KitProgram, KitTree}
+use Rattle.kit.specs.Meaning.{KitBlock, KitOperation}
 use Rattle.kit_checks.specs.Located.{IsBody}
 use Rattle.kit_checks.specs.Sites.{operation_list, block_list, Around}
 use Rattle.kit_checks.specs.Words as words
 use Rattle.kit_checks.specs.Words.{joined, results_of, values_in, values_before, values_if, first_body, visible}
 use Rattle.kit_checks.proofs.Down.{block_listed, operation_listed, operations_are}
 use Rattle.kit_places.specs.Numbers.{values_of}
-use Rattle.kit_places.specs.Store.{KitData, KitNotes, InterpretedProgram, body_of}
+use Rattle.kit_places.specs.Store.{body_of}
 use Rattle.kit_interpreter.specs.Lowering.{IsValueIn}
-use Rattle.kit_execution.specs.Obeying.{ExecutedTree}
 use Rattle.kit_execution.proofs.Bodies.{KitBlocks, KitBody}
 
 -- ---- lists
@@ -31,7 +32,7 @@ has_take (suc n) [] x h = h
 has_take (suc n) (y ∷ xs) x h = ⊎_elim (λ same. inl same) (λ rest. inr (has_take n xs x rest)) h
 
 -- a result of some of these operations is one of one of them
-made_by : (us : List ExecutedTree) (v : Value) → Has v (results_of us) → (u : ExecutedTree) × Has u us × Has v (words.values_of u.head.results)
+made_by : (us : List KitTree) (v : Value) → Has v (results_of us) → (u : KitTree) × Has u us × Has v (words.values_of u.head.results)
 made_by [] v h = absurd h
 made_by (u ∷ us) v h = ⊎_elim
     (λ here. (u, inl refl, here))
@@ -44,16 +45,16 @@ defined_values (t ∷ ts) = ap (λ l. t.value ∷ l) (defined_values ts)
 
 -- ---- definitions
 
-module _ (c : InterpretedProgram) where
-  pub result_values : (q : Ptr Operation) (u : ExecutedTree) → StandsFor c q u → words.values_of u.head.results ≡ values_of (results_at c q)
-  result_values q u s = ap (λ (h : ProgramHead KitData KitNotes). words.values_of h.results) s.head ∙ defined_values s.view.results
-      ∙ sym (ap (λ (o : Option (OperationView KitData)). values_of (unwrap_or (option_map (λ (x : OperationView KitData). x.results) o) [])) s.there)
+module _ (c : KitProgram) where
+  pub result_values : (q : Ptr Operation) (u : KitTree) → StandsFor c q u → words.values_of u.head.results ≡ values_of (results_at c q)
+  result_values q u s = ap (λ (h : ProgramHead KitOperation KitBlock). words.values_of h.results) s.head ∙ defined_values s.view.results
+      ∙ sym (ap (λ (o : Option (OperationView KitOperation)). values_of (unwrap_or (option_map (λ (x : OperationView KitOperation). x.results) o) [])) s.there)
 
   argument_values : (b : Ptr BasicBlock) (body : KitBody) → IsBody c b body → words.values_of body.label.arguments ≡ values_of (arguments_at c b)
-  argument_values b body s = ap (λ (l : ProgramLabel KitData KitNotes). words.values_of l.arguments) s.label ∙ defined_values s.view.arguments
-      ∙ sym (ap (λ (o : Option (BlockView KitNotes)). values_of (unwrap_or (option_map (λ (x : BlockView KitNotes). x.arguments) o) [])) s.there)
+  argument_values b body s = ap (λ (l : ProgramLabel KitOperation KitBlock). words.values_of l.arguments) s.label ∙ defined_values s.view.arguments
+      ∙ sym (ap (λ (o : Option (BlockView KitBlock)). values_of (unwrap_or (option_map (λ (x : BlockView KitBlock). x.arguments) o) [])) s.there)
 
-  pub result_count : (q : Ptr Operation) (u : ExecutedTree) → StandsFor c q u → length (values_of (results_at c q)) ≡ length u.head.results
+  pub result_count : (q : Ptr Operation) (u : KitTree) → StandsFor c q u → length (values_of (results_at c q)) ≡ length u.head.results
   result_count q u s = sym (ap length (result_values q u s)) ∙ length-map u.head.results (λ d. d.name)
 
   -- the value is an argument of the block, or a result of an operation there
@@ -63,7 +64,7 @@ module _ (c : InterpretedProgram) where
   of_arguments : (b : Ptr BasicBlock) (body : KitBody) → IsBody c b body → (v : Value) → Has v (words.values_of body.label.arguments) → IsOf b v
   of_arguments b body is v has = inl (has_at (values_of (arguments_at c b)) v (subst (Has v) (argument_values b body is) has))
 
-  of_results : (b : Ptr BasicBlock) (body : KitBody) → IsBody c b body → (v : Value) (u : ExecutedTree) → Has u (operation_list body.operations)
+  of_results : (b : Ptr BasicBlock) (body : KitBody) → IsBody c b body → (v : Value) (u : KitTree) → Has u (operation_list body.operations)
       → Has v (words.values_of u.head.results) → IsOf b v
   of_results b body is v u in_block in_op =
       let k = has_at (operation_list body.operations) u in_block in
@@ -107,7 +108,7 @@ module _ (c : InterpretedProgram) where
     in_entry false v has = in_first (first_body blocks) refl v has
 
     -- a visible value is one of the function's
-    pub visible_in : (a : Around KitData KitNotes) → a.blocks ≡ blocks → (b : Ptr BasicBlock) → Lists (body_of c f) b → IsBody c b a.body
+    pub visible_in : (a : Around KitOperation KitBlock) → a.blocks ≡ blocks → (b : Ptr BasicBlock) → Lists (body_of c f) b → IsBody c b a.body
         → (v : Value) → Lists (visible a) v → IsValueIn c (body_of c f) v
     visible_in a same b listed is v at = ⊎_elim
         (λ front. (b, listed, of_front b a.body is a.index v front))

@@ -12,6 +12,8 @@ use Rattle.ir_program.specs.declared.handles.Operation.{Operation}
 use Rattle.ir_context.specs.Kept.{kind_at}
 use Rattle.ir_context.specs.declared.notes.OperationNotes.{OperationNotes}
 use Rattle.ir_trees.specs.Stands.{ProgramHead, StandsFor}
+use Rattle.kit.specs.Context.{KitProgram, KitTree}
+use Rattle.kit.specs.Meaning.{KitBlock, KitOperation}
 use Rattle.kit_ops.specs.Keys as keys
 use Rattle.kit_ops.specs.declared.attributes.KitAttr.{KitAttr}
 use Rattle.kit_ops.specs.declared.attributes.KitAttr.TheVariants as attrs
@@ -24,15 +26,14 @@ use Rattle.kit_ops.specs.declared.kinds.KitOp.TheVariants as ops
 use Rattle.kit_ops.specs.declared.types.KitType.{KitType}
 use Rattle.kit_ops.specs.declared.types.KitTypeKind.{KitTypeKind}
 use Rattle.kit_checks.specs.Words.{identifier_in}
-use Rattle.kit_places.specs.Store.{KitData, KitNotes, InterpretedProgram, is_name, is_function, is_module, attribute_of, is_function_named}
-use Rattle.kit_execution.specs.Obeying.{ExecutedTree}
+use Rattle.kit_places.specs.Store.{is_name, is_function, is_module, attribute_of, is_function_named}
 
 -- the notes of operations of `kit`
 abbrev pub KitOperationNotes : Type 0
 KitOperationNotes = OperationNotes Kit KitTypeKind KitAttrKind Unused Unused KitLocation KitOp KitAttr KitType
 
 -- the attribute of an operation of a tree under a key
-abbrev pub tree_attribute : ExecutedTree → List ℕ → Option KitAttr
+abbrev pub tree_attribute : KitTree → List ℕ → Option KitAttr
 tree_attribute u key = attribute_at u.head.content.notes.attributes key
 
 is_func : (k : KitOp) → is_function (Some k) ≡ true → k ≡ ops.Func
@@ -49,17 +50,17 @@ has_name (Some (attrs.Identifier id)) name h =
     subst (λ t. bytes_eq name t ≡ true) (sym same) (nat_list_eq_equiv.refl name)
 has_name _ name h = cc
 
-module _ (c : InterpretedProgram) (p : Ptr Operation) (u : ExecutedTree) (s : StandsFor c p u) where
+module _ (c : KitProgram) (p : Ptr Operation) (u : KitTree) (s : StandsFor c p u) where
   pub payload_is : payload_at c p ≡ Some u.head.content
-  payload_is = ap (option_map (λ (v : OperationView KitData). v.payload)) s.there
-      ∙ ap (λ (h : ProgramHead KitData KitNotes). Some h.content) (sym s.head)
+  payload_is = ap (option_map (λ (v : OperationView KitOperation). v.payload)) s.there
+      ∙ ap (λ (h : ProgramHead KitOperation KitBlock). Some h.content) (sym s.head)
 
   pub kind_is : kind_at c p ≡ Some u.head.content.kind
-  kind_is = ap (option_map (λ (d : KitData). d.kind)) payload_is
+  kind_is = ap (option_map (λ (d : KitOperation). d.kind)) payload_is
 
   pub attribute_is : (key : List ℕ) → attribute_of c p key ≡ tree_attribute u key
-  attribute_is key = ap (λ (o : Option KitData). option_and_then (λ (n : KitOperationNotes). attribute_at n.attributes key)
-      (option_map (λ (d : KitData). d.notes) o)) payload_is
+  attribute_is key = ap (λ (o : Option KitOperation). option_and_then (λ (n : KitOperationNotes). attribute_at n.attributes key)
+      (option_map (λ (d : KitOperation). d.notes) o)) payload_is
 
   -- a test that passes tells the kind
   pub function_kind : (name : List ℕ) → is_function_named c name p ≡ true → u.head.content.kind ≡ ops.Func

@@ -8,16 +8,18 @@ use Rattle.ir_program.specs.Replacing.{same_value}
 use Rattle.ir_program.specs.declared.handles.Operation.{Operation}
 use Rattle.ir_program.specs.declared.handles.Ptr.{Ptr}
 use Rattle.ir_trees.specs.Stands.{by_handle, StandsFor}
+use Rattle.kit.specs.Context.{KitContext, KitTree}
 use Rattle.kit_behaviour.specs.Machine as program
 use Rattle.kit_behaviour.specs.Machine.{FunctionsByPath}
 use Rattle.kit_behaviour.specs.Places as flat
-use Rattle.kit_execution.specs.Obeying.{ExecutedTree, ObeysRules}
+use Rattle.kit_checks.specs.KitWorld.{HasDeclaredTypes}
+use Rattle.kit_execution.specs.Obeying.{ObeysRules}
 use Rattle.kit_flat.specs.Machine as context
 use Rattle.kit_places.specs.Placed.{place_of}
-use Rattle.kit_places.specs.Store.{InterpretedContext, module_code}
+use Rattle.kit_places.specs.Store.{module_code}
 use Rattle.kit_places.specs.declared.places.Place.{Place}
 use Rattle.kit_ruled_views.specs.Programs.{IsProgramOf}
-use Rattle.kit_ruled_views.specs.Ruled.{HasOwnNames, HaveTypesIn}
+use Rattle.kit_ruled_views.specs.Ruled.{HasOwnNames}
 use Rattle.kit_execution.specs.Numberings.{NumbersTextsApart}
 use Rattle.kit_execution.specs.Outcomes.{SameOutcome}
 
@@ -27,18 +29,18 @@ program_path numbered path = reverse (map (λ x. numbered (text_of x)) path)
 
 -- the module keeps the rules, and the tree is its; in it names are distinct, and each value has the type that it has in
 -- the context; different texts have different numbers, and the program is that of the tree
-pub record IsProgramIn (s : InterpretedContext) (root : Ptr Operation) (t : ExecutedTree) (numbered : List ℕ → ℕ)
+pub record IsProgramIn (s : KitContext) (root : Ptr Operation) (t : KitTree) (numbered : List ℕ → ℕ)
     (p : FunctionsByPath flat.Place) : Type 0 where
   pub obeys : ObeysRules s root
   pub stands : StandsFor s.program root t
   pub names : HasOwnNames t
-  pub types : HaveTypesIn (type_at s.program) t
+  pub types : HasDeclaredTypes (type_at s.program) t
   pub numbering : NumbersTextsApart numbered
   pub is : IsProgramOf {N = by_handle} same_value (key_at s.types) numbered t p
 
 -- the run of the function that a path leads to is after as many steps that of its program from the same path
 abbrev pub RunsAsProgram : Type 0
-RunsAsProgram = (s : InterpretedContext) (root : Ptr Operation) (t : ExecutedTree) (numbered : List ℕ → ℕ)
+RunsAsProgram = (s : KitContext) (root : Ptr Operation) (t : KitTree) (numbered : List ℕ → ℕ)
     (p : FunctionsByPath flat.Place) → IsProgramIn s root t numbered p → (path : List Identifier) (place : Place) →
     place_of s root path ≡ Some place → (xs : List ℕ) (n : ℕ) →
     SameOutcome (context.run same_value (module_code s place.within) n
@@ -52,7 +54,7 @@ ExistTogether (Some x) q = IsSome q
 
 -- a path leads to a function of the context where it leads to one of the program
 abbrev pub PathsMeet : Type 0
-PathsMeet = (s : InterpretedContext) (root : Ptr Operation) (t : ExecutedTree) (numbered : List ℕ → ℕ)
+PathsMeet = (s : KitContext) (root : Ptr Operation) (t : KitTree) (numbered : List ℕ → ℕ)
     (p : FunctionsByPath flat.Place) → IsProgramIn s root t numbered p → (path : List Identifier) →
     ExistTogether (place_of s root path) (p (program_path numbered path))
 

@@ -4,9 +4,10 @@ use Rattle.ir_names.specs.declared.identifier.Identifier.{Identifier}
 use Rattle.ir_program.specs.Replacing.{same_value}
 use Rattle.ir_program.specs.declared.handles.Ptr.{Ptr}
 use Rattle.ir_program.specs.declared.handles.Operation.{Operation}
+use Rattle.kit.specs.Context.{KitContext}
 use Rattle.kit_flat.specs.Machine.{Code, MachineState, Going, Ended, Trapped, MachineEffect, Next, Emits, Enters, Leaves, Traps, Stays, effect, rest_of, run, start}
 use Rattle.kit_places.specs.declared.places.Place.{Place}
-use Rattle.kit_places.specs.Store.{InterpretedContext, module_code}
+use Rattle.kit_places.specs.Store.{module_code}
 use Rattle.kit_places.specs.Placed.{place_of}
 
 module _ {V B F : Type 0} (same : V → V → Bool) (code : Code V B F) where
@@ -27,10 +28,10 @@ module _ {V B F : Type 0} (same : V → V → Bool) (code : Code V B F) where
   Moves (Trapped out) = Unit {0}
 
 -- however many steps a run of the function at the place makes on whatever numbers, it moves on from there
-abbrev pub NeverStays : InterpretedContext → Place → Type 0
+abbrev pub NeverStays : KitContext → Place → Type 0
 NeverStays s p = (xs : List ℕ) (n : ℕ) → Moves same_value (module_code s p.within)
     (run same_value (module_code s p.within) n (start same_value (module_code s p.within) p.function xs))
 
 -- so it is of the function that a path leads to
-abbrev pub PathMoves : InterpretedContext → Ptr Operation → List Identifier → Type 0
+abbrev pub PathMoves : KitContext → Ptr Operation → List Identifier → Type 0
 PathMoves s root path = (p : Place) → place_of s root path ≡ Some p → NeverStays s p

@@ -14,6 +14,8 @@ use Rattle.ir_program.specs.declared.handles.IRNode.TheVariants.{Operation as Op
 use Rattle.ir_program.proofs.used.Renames.{IsTestOf}
 use Rattle.ir_program.proofs.used.Renaming.{value-test}
 use Rattle.ir_trees.specs.Searched.{Lists, AreDistinct}
+use Rattle.kit.specs.Context.{KitContext, KitProgram}
+use Rattle.kit.specs.Meaning.{KitBlock}
 use Rattle.opt_inside.specs.Numbered.{Numbers, NumbersInside, StandInOrder}
 use Rattle.opt_inside.specs.Occurring.{IsBelowRoot, IsBlockBelow}
 use Rattle.kit_flat.specs.Machine.{MachineOp}
@@ -23,7 +25,7 @@ use Rattle.kit_flat.specs.Renames.{rename_op, rename_block, TargetsAreInside, Is
 use Rattle.kit_flat.specs.declared.flat.FlatBlock.{FlatBlock}
 use Rattle.kit_flat.specs.declared.flat.FlatFunction.{FlatFunction}
 use Rattle.kit_places.specs.Numbers.{values_of, no_value, value_at, block_with, operation_with}
-use Rattle.kit_places.specs.Store.{InterpretedContext, InterpretedProgram, KitNotes, body_of, op_at, block_seen, module_code}
+use Rattle.kit_places.specs.Store.{body_of, op_at, block_seen, module_code}
 use Rattle.kit_interpreter.specs.Lowering.{IsValueIn, CanRun, IsBlockNumbered, LowersBlock, LowersFunction}
 
 -- values in a row are listed
@@ -52,7 +54,7 @@ map_map : {X Y Z : Type 0} (f : X → Y) (g : Y → Z) (xs : List X) → map (λ
 map_map f g [] = refl
 map_map f g (x ∷ xs) = ap (λ ys. g (f x) ∷ ys) (map_map f g xs)
 
-module _ (s : InterpretedContext) (m op : Ptr Operation) (region : Ptr Region) (n : Numbers) (can : CanRun s m op)
+module _ (s : KitContext) (m op : Ptr Operation) (region : Ptr Region) (n : Numbers) (can : CanRun s m op)
     (is : slice_get (regions_in s.program op) 0 ≡ Some region)
     (numbers : NumbersInside s.program op n) (stands : StandsInOperation s.program region op)
     (blocks_stand : (r : Ptr Region) (k : ℕ) (b : Ptr BasicBlock) → slice_get (blocks_in s.program r) k ≡ Some b
@@ -120,22 +122,22 @@ module _ (s : InterpretedContext) (m op : Ptr Operation) (region : Ptr Region) (
     ren = rename_op (value_at n.values) (block_with (blocks_in s.program region)) (operation_with handles)
 
     seen : (b : Ptr BasicBlock) (x : FlatBlock) → LowersBlock s m n.values (blocks_in s.program region) handles b x
-        → (v : BlockView KitNotes) → block_at s.program b ≡ Some v
+        → (v : BlockView KitBlock) → block_at s.program b ≡ Some v
         → block_seen s m v ≡ rename_block (value_at n.values) (block_with (blocks_in s.program region))
         (operation_with handles) (block_view x)
     seen b x l v e =
         let a : arguments_at s.program b ≡ v.arguments = ap
-        (λ (o : Option (BlockView KitNotes)). unwrap_or (option_map (λ (w : BlockView KitNotes). w.arguments) o)
+        (λ (o : Option (BlockView KitBlock)). unwrap_or (option_map (λ (w : BlockView KitBlock). w.arguments) o)
         []) e in
         let p : operations_in s.program b ≡ v.operations = ap
-        (λ (o : Option (BlockView KitNotes)). unwrap_or
-        (option_map (λ (w : BlockView KitNotes). w.operations) o) []) e in
+        (λ (o : Option (BlockView KitBlock)). unwrap_or
+        (option_map (λ (w : BlockView KitBlock). w.operations) o) []) e in
         let args = ap values_of (sym a) ∙ l.arguments in
         let os = ap (map (op_at s m)) (sym p) ∙ l.operations ∙ map_map op_view ren x.instructions.items in
         λ i. record { arguments = args i; operations = os i }
 
     there : (b : Ptr BasicBlock) (x : FlatBlock) → LowersBlock s m n.values (blocks_in s.program region) handles b x
-        → (o : Option (BlockView KitNotes)) → block_at s.program b ≡ o → IsSome o
+        → (o : Option (BlockView KitBlock)) → block_at s.program b ≡ o → IsSome o
         → option_map (block_seen s m) (block_at s.program b) ≡ Some
         (rename_block (value_at n.values) (block_with (blocks_in s.program region)) (operation_with handles)
         (block_view x))
@@ -187,7 +189,7 @@ module _ (s : InterpretedContext) (m op : Ptr Operation) (region : Ptr Region) (
     )
 
 -- a function's first region, the numbers of what is inside the function, and its blocks by number
-pub record IsSetting (p : InterpretedProgram) (op : Ptr Operation) (region : Ptr Region) (n : Numbers)
+pub record IsSetting (p : KitProgram) (op : Ptr Operation) (region : Ptr Region) (n : Numbers)
     (keys : List (Ptr BasicBlock)) : Type 0 where
   pub region_is : Some region ≡ slice_get (regions_in p op) 0
   pub numbers : NumbersInside p op n
@@ -200,7 +202,7 @@ pub record IsSetting (p : InterpretedProgram) (op : Ptr Operation) (region : Ptr
       → StandsInside p (OperationNode q) (BlockNode b) → ⊥
   pub keys_are : keys ≡ blocks_in p region
 
-module _ (s : InterpretedContext) (m op : Ptr Operation) (region : Ptr Region) (n : Numbers) (keys : List (Ptr BasicBlock))
+module _ (s : KitContext) (m op : Ptr Operation) (region : Ptr Region) (n : Numbers) (keys : List (Ptr BasicBlock))
     (can : CanRun s m op) (t : IsSetting s.program op region n keys) where
   pub live_at : (i : ℕ) (b : Ptr BasicBlock) → slice_get keys i ≡ Some b → IsSome (block_at s.program b)
   live_at i b e = (t.blocks_stand region i b

@@ -6,6 +6,7 @@ use Rattle.ir_program.specs.declared.handles.Ptr.{Ptr}
 use Rattle.ir_program.specs.declared.handles.Operation.{Operation}
 use Rattle.ir_program.specs.declared.handles.BasicBlock.{BasicBlock}
 use Rattle.ir_program.specs.declared.handles.Value.{Value}
+use Rattle.kit.specs.Context.{KitContext}
 use Rattle.kit_flat.specs.Machine.{run, start}
 use Rattle.kit_flat.specs.View.{flat_code}
 use Rattle.kit_flat.specs.Shows.{OutcomeShows}
@@ -15,10 +16,10 @@ use Rattle.kit_flat.specs.declared.flat.FlatFunction.{FlatFunction}
 use Rattle.kit_flat.specs.declared.outcome.Outcome.{Outcome}
 use Rattle.kit_flat.proofs.Renamed.{run_alike, shows_alike, started_alike}
 use Rattle.kit_places.specs.Numbers.{no_value, block_with, operation_with}
-use Rattle.kit_places.specs.Store.{InterpretedContext, body_of, module_code}
+use Rattle.kit_places.specs.Store.{body_of, module_code}
 use Rattle.kit_interpreter.specs.Lowering.{LowersModule}
 
-module _ (s : InterpretedContext) (m : Ptr Operation) (handles : List (Ptr Operation)) (fs : List FlatFunction)
+module _ (s : KitContext) (m : Ptr Operation) (handles : List (Ptr Operation)) (fs : List FlatFunction)
     (l : LowersModule s m handles fs) where
   abbrev pick : (i : ℕ) (o : Option FlatFunction) → slice_get fs i ≡ o → ℕ → Value
   pick i None e = λ v. no_value
@@ -60,7 +61,7 @@ module _ (s : InterpretedContext) (m : Ptr Operation) (handles : List (Ptr Opera
       (started_alike same_value (module_code s m) names fs module_is i b xs))
       h
 
-pub ran : (s : InterpretedContext) (within outer : Ptr Operation) (handles : List (Ptr Operation)) (fs : List FlatFunction)
+pub ran : (s : KitContext) (within outer : Ptr Operation) (handles : List (Ptr Operation)) (fs : List FlatFunction)
     → LowersModule s outer handles fs → outer ≡ within → (f : Ptr Operation) (i : ℕ) → operation_with handles i ≡ f
     → i < length handles
     → (xs : List ℕ) (n : ℕ) (o : Outcome) → OutcomeShows

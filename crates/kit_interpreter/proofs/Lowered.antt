@@ -13,6 +13,7 @@ use Rattle.ir_program.proofs.used.Renames.{IsTestOf}
 use Rattle.ir_program.proofs.used.Renaming.{value-test, block-test}
 use Rattle.ir_program.specs.Replacing.{same_value, same_block}
 use Rattle.ir_trees.specs.Searched.{Lists}
+use Rattle.kit.specs.Context.{KitContext}
 use Rattle.kit_flat.specs.Machine.{MachineOp, Other}
 use Rattle.kit_flat.specs.View.{op_view}
 use Rattle.kit_flat.specs.Forms.{op_of, rename_form, form_view}
@@ -23,7 +24,7 @@ use Rattle.kit_flat.specs.declared.forming.FlatForm.{FlatForm}
 use Rattle.kit_flat.proofs.Natural.{natural}
 use Rattle.kit_flat.proofs.Fitting.{formed_fits}
 use Rattle.kit_places.specs.Numbers.{value_number, block_number, values_of, no_value, value_at, block_with, operation_with}
-use Rattle.kit_places.specs.Store.{InterpretedContext, op_if, form_at, op_at}
+use Rattle.kit_places.specs.Store.{op_if, form_at, op_at}
 use Rattle.kit_interpreter.specs.Lowering.{IsLowerable, LowersOperation}
 use Rattle.kit_interpreter.proofs.Places.{placed}
 
@@ -47,7 +48,7 @@ numbers_below same test keys (x ∷ xs) h =
     (slice_get_within keys (position_or_len (same x) keys) x (placed same test keys x (h x (0, refl))))
     (numbers_below same test keys xs (λ y l. h y (suc l.0, l.1)))
 
-module _ (s : InterpretedContext) (m : Ptr Operation) (values : List Value) (blocks : List (Ptr BasicBlock))
+module _ (s : KitContext) (m : Ptr Operation) (values : List Value) (blocks : List (Ptr BasicBlock))
     (handles : List (Ptr Operation)) (q : Ptr Operation) (is : IsLowerable s m values blocks q) where
   abbrev ren : MachineOp ℕ ℕ ℕ → MachineOp Value (Ptr BasicBlock) (Ptr Operation)
   ren = rename_op (value_at values) (block_with blocks) (operation_with handles)

@@ -12,8 +12,9 @@ use Rattle.ir_names.proofs.Entries.{attribute_at-named_entries, named_entries-in
 use Rattle.ir_program.specs.Program.{no_handle}
 use Rattle.ir_program.specs.declared.handles.Ptr.{Ptr}
 use Rattle.ir_program.specs.declared.handles.Operation.{Operation}
+use Rattle.kit.specs.Context.{KitProgram}
 use Rattle.kit_places.specs.Numbers.{operation_with}
-use Rattle.kit_places.specs.Store.{InterpretedProgram, is_function_named, first_with}
+use Rattle.kit_places.specs.Store.{is_function_named, first_with}
 use Rattle.kit_interpreter.specs.Lowering.{number_of, IsFunctionTable}
 use Rattle.kit_places.proofs.Found.{appended, only, kept}
 
@@ -42,7 +43,7 @@ last_of [] y (suc i) x e = cc
 last_of (d ∷ done) y zero x e = inl e
 last_of (d ∷ done) y (suc i) x e = last_of done y i x e
 
-module _ {K : Type 0} (c : InterpretedProgram) (done : List (Ptr Operation)) (p : Ptr Operation)
+module _ {K : Type 0} (c : KitProgram) (done : List (Ptr Operation)) (p : Ptr Operation)
     (handles : List (Ptr Operation)) (names : List (String K × ℕ)) (t : IsFunctionTable c done handles names) where
   -- an operation that changes no search changes no table
   unchanged : ((name : List ℕ) → first_with (is_function_named c name) (done ++ p ∷ []) ≡ first_with

@@ -12,6 +12,7 @@ use Rattle.ir_program.specs.declared.handles.Operation.{Operation}
 use Rattle.ir_program.specs.declared.handles.BasicBlock.{BasicBlock}
 use Rattle.ir_program.specs.declared.handles.Value.{Value}
 use Rattle.ir_trees.specs.Searched.{Lists}
+use Rattle.kit.specs.Context.{KitContext, KitProgram}
 use Rattle.kit_flat.specs.Machine.{Other}
 use Rattle.kit_flat.specs.Forms.{Form, rename_form, form_view}
 use Rattle.kit_flat.specs.declared.forming.FlatForm.{FlatForm}
@@ -22,7 +23,7 @@ use Rattle.kit_flat.specs.declared.flat.Instruction.{Instruction}
 use Rattle.kit_flat.specs.declared.flat.FlatBlock.{FlatBlock}
 use Rattle.kit_flat.specs.declared.flat.FlatFunction.{FlatFunction}
 use Rattle.kit_places.specs.Numbers.{values_of, value_at, block_with, operation_with}
-use Rattle.kit_places.specs.Store.{InterpretedContext, InterpretedProgram, body_of, function_named, is_function_named, first_with, op_at, module_code}
+use Rattle.kit_places.specs.Store.{body_of, function_named, is_function_named, first_with, op_at, module_code}
 
 -- ---- what it needs
 
@@ -37,7 +38,7 @@ module _ {O B : Type 0} (c : Program O B) where
 -- a function can run: it has a block, the machine executes each operation of its blocks, operands are values of these
 -- blocks, and successors are blocks of
 -- the function
-pub record CanRun (s : InterpretedContext) (m f : Ptr Operation) : Type 0 where
+pub record CanRun (s : KitContext) (m f : Ptr Operation) : Type 0 where
   pub entry : 0 < length (body_of s.program f)
   pub executes : (b : Ptr BasicBlock) (q : Ptr Operation) → Lists (body_of s.program f) b
       → Lists (operations_in s.program b) q → op_at s m q ≢ Other
@@ -48,7 +49,7 @@ pub record CanRun (s : InterpretedContext) (m f : Ptr Operation) : Type 0 where
       → Lists (operations_in s.program b) q → Lists (successors_at s.program q) d → Lists (body_of s.program f) d
 
 -- so can each function of a module that a call may name
-abbrev pub FunctionsCanRun : InterpretedContext → Ptr Operation → Type 0
+abbrev pub FunctionsCanRun : KitContext → Ptr Operation → Type 0
 FunctionsCanRun s m = (name : List ℕ) (f : Ptr Operation) → function_named s.program m name ≡ Some f → CanRun s m f
 
 -- ---- tables of functions
@@ -65,7 +66,7 @@ pub record IsTableOf {K : Type 0} (found : List ℕ → Option (Ptr Operation)) 
   pub back : (i : ℕ) (f : Ptr Operation) → slice_get handles i ≡ Some f → (name : List ℕ) × (found name ≡ Some f)
 
 -- the table of the functions among these operations
-abbrev pub IsFunctionTable : {K : Type 0} → InterpretedProgram → List (Ptr Operation) → List (Ptr Operation) → List (String K × ℕ)
+abbrev pub IsFunctionTable : {K : Type 0} → KitProgram → List (Ptr Operation) → List (Ptr Operation) → List (String K × ℕ)
     → Type 0
 IsFunctionTable {K} c ops handles names = IsTableOf {K = K} (λ name. first_with (is_function_named c name) ops) handles names
 
@@ -76,7 +77,7 @@ abbrev pub IsFormOf : List (Ptr Operation) → Option (Form (Ptr Operation)) →
 IsFormOf handles form shape = option_map (λ s. rename_form (operation_with handles) (form_view s)) shape ≡ form
 
 -- the values and blocks that an operation names have numbers, and the machine executes it
-pub record IsLowerable (s : InterpretedContext) (m : Ptr Operation) (values : List Value) (blocks : List (Ptr BasicBlock))
+pub record IsLowerable (s : KitContext) (m : Ptr Operation) (values : List Value) (blocks : List (Ptr BasicBlock))
     (q : Ptr Operation) : Type 0 where
   pub executes : op_at s m q ≢ Other
   pub results : (v : Value) → Lists (values_of (results_at s.program q)) v → Lists values v
@@ -84,12 +85,12 @@ pub record IsLowerable (s : InterpretedContext) (m : Ptr Operation) (values : Li
   pub successors : (b : Ptr BasicBlock) → Lists (successors_at s.program q) b → Lists blocks b
 
 -- the same of the operations of a block, and of its arguments
-pub record IsBlockNumbered (s : InterpretedContext) (m : Ptr Operation) (values : List Value)
+pub record IsBlockNumbered (s : KitContext) (m : Ptr Operation) (values : List Value)
     (blocks : List (Ptr BasicBlock)) (b : Ptr BasicBlock) : Type 0 where
   pub arguments : (v : Value) → Lists (values_of (arguments_at s.program b)) v → Lists values v
   pub operations : (q : Ptr Operation) → Lists (operations_in s.program b) q → IsLowerable s m values blocks q
 
-module _ (s : InterpretedContext) (m : Ptr Operation) (values : List Value) (blocks : List (Ptr BasicBlock))
+module _ (s : KitContext) (m : Ptr Operation) (values : List Value) (blocks : List (Ptr BasicBlock))
     (handles : List (Ptr Operation)) where
   -- the instruction is the operation, by numbers that are in their bounds
   pub record LowersOperation (q : Ptr Operation) (x : Instruction) : Type 0 where
@@ -106,13 +107,13 @@ module _ (s : InterpretedContext) (m : Ptr Operation) (values : List Value) (blo
     pub inside : (j : ℕ) (o : Instruction) → slice_get x.instructions.items j ≡ Some o → TargetsAreInside (length blocks) o
 
 -- the flat function is the function, in which values have some names, and its numbers are in their bounds
-abbrev pub LowersFunction : InterpretedContext → Ptr Operation → List (Ptr Operation) → Ptr Operation → FlatFunction → Type 0
+abbrev pub LowersFunction : KitContext → Ptr Operation → List (Ptr Operation) → Ptr Operation → FlatFunction → Type 0
 LowersFunction s m handles f x =
     (value : ℕ → Value) × IsFunctionOf same_value (module_code s m) (operation_with handles) f
     (block_with (body_of s.program f)) value x × FunctionFits (length handles) x
 
 -- so is each function of the flat module that of the table with its number
-pub record LowersModule (s : InterpretedContext) (m : Ptr Operation) (handles : List (Ptr Operation))
+pub record LowersModule (s : KitContext) (m : Ptr Operation) (handles : List (Ptr Operation))
     (fs : List FlatFunction) : Type 0 where
   pub len : length fs ≡ length handles
   pub each : (i : ℕ) (x : FlatFunction) → slice_get fs i ≡ Some x

@@ -10,6 +10,7 @@ ghost use Rattle.kit_interpreter.specs.Lowering.{number_of, IsFunctionTable};
 
 use indexmap::IndexMap;
 use ir_context::{Context, OperationCalls};
+use ir_hashing::TextKey;
 use ir_program::{BasicBlock, Operation, Ptr};
 use kit::Kit;
 use kit_ops::{KitAttr, KitOp, keys};
@@ -21,7 +22,7 @@ use std::alloc::{AllocError, Global};
 pub(crate) struct Functions {
     pub(crate) outer: Ptr<Operation>,
     pub(crate) handles: Vec<Ptr<Operation>>,
-    pub(crate) names: IndexMap<String, usize>,
+    pub(crate) names: IndexMap<String, usize, TextKey>,
 }
 
 /// The name of an operation, if it is a function that has one.
@@ -40,15 +41,15 @@ fn function_name<'a>(ctx: &'a Context<Kit>, op: Ptr<Operation>) -> Option<&'a st
 }
 
 impl Functions {
-    /// No functions.
-    fn new(alloc: Global, outer: Ptr<Operation>) -> Functions
+    /// No functions. Their names will be found by this key of hashes.
+    fn new(alloc: Global, key: TextKey, outer: Ptr<Operation>) -> Functions
         ensures outer { result.outer ≡ outer }
         ensures table { (c : _) → IsFunctionTable c [] result.handles.items result.names.entries }
     {
         Functions {
             outer,
             handles: Vec::new(alloc),
-            names: IndexMap::new(alloc),
+            names: IndexMap::with_hasher(alloc, key),
         }
     }
 
@@ -131,7 +132,7 @@ pub(crate) fn functions_of(
     ensures table { IfOk result (λ functions. IsFunctionTable ctx.now.program (members ctx.now.program outer)
         functions.handles.items functions.names.entries) }
 {
-    let mut functions = Functions::new(alloc, outer);
+    let mut functions = Functions::new(alloc, ctx.hash_key(), outer);
     if let Some(block) = entry(ctx, outer) {
         functions.add_block(alloc, ctx, block)?;
     }

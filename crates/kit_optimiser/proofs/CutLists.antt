@@ -2,11 +2,11 @@
 use Rattle.std.proofs.Common.{◌≡◌, ℕ, List, ◌++◌, sym, subst}
 use Rattle.ir_program.specs.declared.handles.Operation.{Operation}
 use Rattle.ir_program.specs.declared.handles.Ptr.{Ptr}
+use Rattle.kit.specs.Context.{KitContext}
 use Rattle.kit_behaviour.specs.Machine.{FunctionsByPath}
 use Rattle.kit_behaviour.specs.PassLists.{Pass, IsAfter}
 use Rattle.kit_behaviour.specs.Places.{Place}
 use Rattle.kit_behaviour.proofs.PassListLemmas.{after_cut}
-use Rattle.kit_ruled_views.specs.Functions.{KitContext}
 use Rattle.kit_optimiser.specs.Programs.{PassedPrograms}
 use Rattle.kit_optimiser.proofs.ProgramsOfModules.{fit}
 

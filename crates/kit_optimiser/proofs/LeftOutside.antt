@@ -16,6 +16,7 @@ use Rattle.ir_program.proofs.made.Frames.{same_or_not}
 use Rattle.ir_trees.specs.Renames.{names_of}
 use Rattle.ir_trees.specs.Stands.{StandsFor, ProgramHead, ProgramLabel}
 use Rattle.ir_trees.proofs.Members.{has_at}
+use Rattle.kit.specs.Context.{KitProgram, KitTree}
 use Rattle.opt_decide.specs.Phase.{BringsNoneInside, CarriesOutPart}
 use Rattle.opt_dialect.specs.declared.status.IRStatus.{IRStatus}
 use Rattle.opt_dialect.specs.declared.status.OptError.{OptError}
@@ -36,8 +37,6 @@ use Rattle.kit_ruled_passes.proofs.InTrees.{Includes, includes_both}
 use Rattle.kit_ruled_passes.proofs.LeftApart.{LeavesApart, something}
 use Rattle.kit_ruled_passes.proofs.PassIncludes.{decided_less, kept_less}
 use Rattle.kit_ops.specs.declared.attributes.IntegerAttr.{IntegerAttr}
-use Rattle.kit_ruled_passes.specs.Scopes.{KitProgram}
-use Rattle.kit_ruled_views.specs.Ruled.{KitTree}
 use Rattle.kit_views.proofs.Lists.{has_get}
 use Rattle.kit_optimiser.specs.Outside.{IsOutside, KeepsRest, LeavesRest, StaysOutside}
 

@@ -9,13 +9,14 @@ use Rattle.ir_program.specs.declared.handles.Operation.{Operation}
 use Rattle.ir_program.specs.declared.handles.Ptr.{Ptr}
 use Rattle.ir_trees.specs.Searched.{AreDistinct, operation_names, block_names}
 use Rattle.ir_trees.specs.Stands.{StandsFor}
+use Rattle.kit.specs.Context.{KitTree}
 use Rattle.opt_trees.specs.Occurrences.{defined_in}
 use Rattle.opt_inside.proofs.Added.{HasValues}
 use Rattle.opt_inside.proofs.Among.{numbers_among}
 use Rattle.opt_inside.proofs.Around.{HasLists}
 use Rattle.opt_inside.proofs.Counting.{numbering_ends}
 use Rattle.kit.specs.Meaning.{KitOperation, KitBlock}
-use Rattle.kit_ruled_views.specs.Ruled.{KitTree, HasOwnNames}
+use Rattle.kit_ruled_views.specs.Ruled.{HasOwnNames}
 
 root_first : {O B : Type 0} (c : Program O B) (e : IRNode) (all : List IRNode) → IsPreorder c (e ∷ []) all
     → (ns : List IRNode) × (all ≡ e ∷ ns)

@@ -9,13 +9,12 @@ use Rattle.ir_program.proofs.made.AddSteps.{take-next}
 use Rattle.ir_trees.specs.Stands.{by_handle}
 use Rattle.ir_types.specs.Interned.{key_at}
 use Rattle.ir_types.specs.Views.{TypesView}
+use Rattle.kit.specs.Context.{KitContext, KitTree}
 use Rattle.kit.specs.declared.dialect.Unused.{Unused}
 use Rattle.kit_behaviour.specs.PassLists.{Pass}
 use Rattle.kit_ruled_passes.specs.Held.{HoldsModule}
 use Rattle.kit_ruled_views.specs.TreePasses.{IsTreePass, IsTreeAfter, IsSoundTree}
 use Rattle.kit_ops.specs.declared.types.KitType.{KitType}
-use Rattle.kit_ruled_views.specs.Functions.{KitContext}
-use Rattle.kit_ruled_views.specs.Ruled.{KitTree}
 use Rattle.kit_writable_trees.specs.Writable.{IsWritableRoot}
 use Rattle.kit_ops.specs.declared.pass.KitPass.{KitPass}
 use Rattle.kit_optimiser.specs.Passed.{CountsTo, IsPassed, IsOptimised, IsSoundRoot, ExtendsPasses, RunsPasses, pass_of}

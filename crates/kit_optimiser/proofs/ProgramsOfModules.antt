@@ -7,6 +7,7 @@ use Rattle.ir_program.specs.declared.handles.Ptr.{Ptr}
 use Rattle.ir_trees.specs.Stands.{by_handle, StandsFor}
 use Rattle.ir_types.specs.Interned.{key_at}
 use Rattle.ir_types.specs.Views.{TypesView}
+use Rattle.kit.specs.Context.{KitContext, KitTree}
 use Rattle.kit.specs.declared.dialect.Unused.{Unused}
 use Rattle.kit_behaviour.specs.Machine.{FunctionsByPath}
 use Rattle.kit_behaviour.specs.PassLists.{Pass, Fit, IsAfter}
@@ -26,8 +27,7 @@ use Rattle.kit_ops.specs.declared.types.KitType.{KitType}
 use Rattle.kit_optimiser.specs.Passed.{IsOptimised}
 use Rattle.kit_execution.specs.Laws.{IsProgramIn}
 use Rattle.kit_execution.specs.Numberings.{NumbersTextsApart}
-use Rattle.kit_ruled_views.specs.Functions.{KitContext}
-use Rattle.kit_ruled_views.specs.Ruled.{KitTree, type_or_first}
+use Rattle.kit_ruled_views.specs.Ruled.{type_or_first}
 use Rattle.kit_ruled_views.proofs.HandleSameness.{values_apart}
 use Rattle.kit_optimiser.specs.Programs.{IsOrdinary, PassedPrograms}
 use Rattle.kit_optimiser.proofs.HandlesTold.{handles_told}

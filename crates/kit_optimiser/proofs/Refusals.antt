@@ -5,8 +5,8 @@ use Rattle.ir_base.specs.declared.growth.GrowError.TheVariants.{Memory as GrowMe
 use Rattle.ir_opts.specs.Simplified.{StopsAt, while_deciding, while_removing, loses_uses, while_joining, comes_back}
 use Rattle.ir_program.specs.declared.handles.Operation.{Operation}
 use Rattle.ir_program.specs.declared.handles.Ptr.{Ptr}
+use Rattle.kit.specs.Context.{KitProgram}
 use Rattle.kit.specs.Meaning.{kit}
-use Rattle.kit_ruled_passes.specs.Scopes.{KitProgram}
 use Rattle.opt_dialect.specs.declared.status.OptError.{OptError}
 use Rattle.opt_dialect.specs.Statuses.{error_of}
 use Rattle.opt_dialect.specs.declared.status.OptError.TheVariants.{Memory, CounterFull, LiveUse, UndeterminedOperand}

@@ -7,6 +7,8 @@ use Rattle.ir_trees.specs.Stands.{by_handle, StandsFor}
 use Rattle.ir_trees.proofs.OneTree.{one_tree}
 use Rattle.ir_types.specs.Interned.{key_at}
 use Rattle.ir_types.specs.Views.{TypesView}
+use Rattle.kit.specs.Context.{KitContext, KitProgram, KitTree}
+use Rattle.kit_checks.specs.KitWorld.{HasDeclaredTypes, kit_world}
 use Rattle.opt_trees.specs.Simplify.{IsLocal, IsSimplify}
 use Rattle.kit.specs.declared.dialect.Unused.{Unused}
 use Rattle.kit.specs.Meaning.{kit}
@@ -17,12 +19,10 @@ use Rattle.kit_ruled_views.specs.TreePasses.{IsTreePass, IsSccpNamed, IsDceAlone
 use Rattle.kit_ops.specs.declared.types.KitType.{KitType}
 use Rattle.kit_pass_rules.specs.Laws as laws
 use Rattle.kit_pass_rules.specs.Laws.{IsGood, MakesUpToNames, DceKeepsRules, SccpKeepsRules}
-use Rattle.kit_pass_rules.specs.Worlds.{kit_world, HandlesAreApart, IsTypedIn, ObeysIn}
+use Rattle.kit_pass_rules.specs.Worlds.{HandlesAreApart, ObeysIn}
 use Rattle.kit_ruled_passes.specs.Laws.{LeavesTree}
 use Rattle.kit_ruled_passes.specs.Entering.{IsEnteredNowhere}
-use Rattle.kit_ruled_passes.specs.Scopes.{KitProgram}
-use Rattle.kit_ruled_views.specs.Functions.{KitContext, IsSelfContained}
-use Rattle.kit_ruled_views.specs.Ruled.{KitTree}
+use Rattle.kit_ruled_views.specs.Functions.{IsSelfContained}
 use Rattle.kit_written_trees.specs.PassLaws.{DceStaysWritable, SccpStaysWritable, SimplifyStaysWritable}
 use Rattle.kit_writable_trees.specs.Writable.{IsWritableRoot}
 use Rattle.kit_optimiser.specs.Passed.{Leaves, IsPassed}
@@ -43,8 +43,8 @@ pub record IsLeft (old new : KitContext) (root : Ptr Operation) : Type 0 where
   pub tree : (t : KitTree) × StandsFor old.program root t
   pub types : new.types ≡ old.types
   pub apart : (t : KitTree) → StandsFor old.program root t → HandlesAreApart t
-  pub typed : (t : KitTree) → StandsFor old.program root t → IsTypedIn (type_at old.program) t
-  pub typed_after : (t : KitTree) → StandsFor new.program root t → IsTypedIn (type_at new.program) t
+  pub typed : (t : KitTree) → StandsFor old.program root t → HasDeclaredTypes (type_at old.program) t
+  pub typed_after : (t : KitTree) → StandsFor new.program root t → HasDeclaredTypes (type_at new.program) t
   pub entered : IsEnteredNowhere new root
   pub contained : IsSelfContained new root
 
@@ -58,7 +58,7 @@ module _ (old new : KitContext) (root : Ptr Operation) (held : HoldsModule old r
 
   -- the pass makes of good trees such as keep the rules, and of such as can be written others
   record Keeps (Makes : KitTree → KitTree → Type 0) : Type 0 where
-    rules : (t u : KitTree) → StandsFor old.program root t → Makes t u → IsTypedIn (type_at new.program) u
+    rules : (t u : KitTree) → StandsFor old.program root t → Makes t u → HasDeclaredTypes (type_at new.program) u
         → ObeysIn (kit_world (key_at old.types) (type_at new.program)) u
     writes : (t u : KitTree) → StandsFor old.program root t → Makes t u → IsWritableRoot old.types.keys t
         → IsWritableRoot old.types.keys u

@@ -6,14 +6,13 @@ use Rattle.ir_program.specs.declared.handles.Ptr.{Ptr}
 use Rattle.ir_trees.specs.Names.{Names}
 use Rattle.ir_trees.specs.Stands.{StandsFor}
 use Rattle.ir_trees.specs.Trees.{Root}
+use Rattle.kit.specs.Context.{KitContext, KitTree}
 use Rattle.kit_ops.specs.declared.types.KitType.{KitType}
 use Rattle.kit_behaviour.specs.PassLists.{Pass}
 use Rattle.kit_ruled_passes.specs.Held.{HoldsModule}
 use Rattle.kit_ruled_views.specs.TreePasses.{IsTreeAfter}
 use Rattle.kit_optimiser.specs.Passed.{IsOptimised}
 use Rattle.kit_execution.specs.Numberings.{NumbersTextsApart}
-use Rattle.kit_ruled_views.specs.Functions.{KitContext}
-use Rattle.kit_ruled_views.specs.Ruled.{KitTree}
 use Rattle.kit_views.specs.Reading.{kit_contents}
 use Rattle.kit_optimiser.specs.Functions.{function_content}
 use Rattle.kit_optimiser.specs.Programs.{IsOrdinary, PassedPrograms}

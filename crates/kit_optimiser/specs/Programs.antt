@@ -4,19 +4,20 @@ use Rattle.ir_program.specs.Program.{type_at}
 use Rattle.ir_program.specs.declared.handles.Operation.{Operation}
 use Rattle.ir_program.specs.declared.handles.Ptr.{Ptr}
 use Rattle.ir_trees.specs.Stands.{StandsFor}
+use Rattle.kit.specs.Context.{KitContext, KitTree}
 use Rattle.kit_behaviour.specs.Laws.{AlikeWithin}
 use Rattle.kit_behaviour.specs.Machine.{FunctionsByPath}
 use Rattle.kit_behaviour.specs.PassLists.{Pass, IsAfter, Goal, SameFaces}
 use Rattle.kit_behaviour.specs.Places.{Place}
+use Rattle.kit_checks.specs.KitWorld.{HasDeclaredTypes}
 use Rattle.kit_ruled_views.specs.Operations.{operations_below}
 use Rattle.kit_execution.specs.Laws.{IsProgramIn}
-use Rattle.kit_ruled_views.specs.Functions.{KitContext}
-use Rattle.kit_ruled_views.specs.Ruled.{KitTree, HasOwnNames, HaveTypesIn}
+use Rattle.kit_ruled_views.specs.Ruled.{HasOwnNames}
 use Rattle.kit_optimiser.specs.Functions.{function_content}
 
 -- in the operation's tree names are distinct, and values have the types that the context says: so it is in each context
 abbrev pub IsOrdinary : KitContext → Ptr Operation → Type 0
-IsOrdinary s root = (t : KitTree) → StandsFor s.program root t → HasOwnNames t × HaveTypesIn (type_at s.program) t
+IsOrdinary s root = (t : KitTree) → StandsFor s.program root t → HasOwnNames t × HasDeclaredTypes (type_at s.program) t
 
 -- A module of a context and what a list of passes left of it, by their programs, under some numbers of names.
 pub record PassedPrograms (xs : List Pass) (old new : KitContext) (root : Ptr Operation) (numbered : List ℕ → ℕ)

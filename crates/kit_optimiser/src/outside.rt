@@ -1,10 +1,10 @@
 //! Of what stands outside a module.
 ghost use Rattle.ir_opts.specs.Simplified.{StopsAt};
 ghost use Rattle.ir_opts.specs.SimplifiedTree.{SimplifiesTree};
+ghost use Rattle.kit.specs.Context.{KitProgram};
 ghost use Rattle.kit.specs.Meaning.{kit};
 ghost use Rattle.kit_ruled_passes.specs.Held.{HoldsModule};
 ghost use Rattle.kit_optimiser.specs.Outside.{KeepsRest, LeavesRest};
-ghost use Rattle.kit_ruled_passes.specs.Scopes.{KitProgram};
 ghost use Rattle.opt_dce.specs.Thins.{IsOutcome};
 ghost use Rattle.opt_dialect.specs.declared.status.IRStatus.{IRStatus};
 ghost use Rattle.opt_dialect.specs.declared.status.OptError.{OptError};

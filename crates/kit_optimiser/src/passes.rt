@@ -39,6 +39,8 @@ fn shortage_of(error: OptError) -> GrowError
         OptError::CounterFull => GrowError::CounterFull,
         OptError::UndeterminedOperand => unreachable!(),
         OptError::LiveUse => unreachable!(),
+        OptError::Verify => unreachable!(),
+        OptError::ForeignEdge => unreachable!(),
     }
 }
 

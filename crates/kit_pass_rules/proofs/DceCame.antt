@@ -5,12 +5,12 @@ use Rattle.ir_program.specs.declared.handles.Operation.{Operation}
 use Rattle.ir_trees.specs.Searched.{Lists}
 use Rattle.ir_trees.specs.Stands.{by_handle}
 use Rattle.ir_trees.specs.Trees.{Blocks}
+use Rattle.kit.specs.Context.{KitTree}
 use Rattle.kit.specs.Meaning.{KitOperation, KitBlock, kit}
 use Rattle.kit_checks.specs.Sites.{Listed, Around, Site, operation_list, block_list, region_list, site_from, site_at}
 use Rattle.kit_checks.specs.Words.{members_of, bodies_of}
 use Rattle.kit_checks.proofs.Down.{step_to, stepped}
 use Rattle.kit_checks.proofs.Passed.{from_joined}
-use Rattle.kit_pass_rules.specs.Worlds.{PassedTree}
 use Rattle.kit_pass_rules.proofs.Left.{left, LastStays, origin}
 use Rattle.kit_pass_rules.proofs.Lists.{map_at, has_at_index, index_of_has}
 use Rattle.kit_pass_rules.proofs.Thin.{KitBody, thin_tree, thin_body, goes, regions_thin, blocks_thin, operations_thin}
@@ -26,26 +26,26 @@ abbrev pub KitSite : Type 0
 KitSite = Site KitOperation KitBlock
 
 -- a block of a region of an operation, by its numbers
-pub record BodyAt (u : PassedTree) (body : KitBody) : Type 0 where
+pub record BodyAt (u : KitTree) (body : KitBody) : Type 0 where
   pub region : ℕ
   pub number : ℕ
   pub blocks : Listed KitOperation KitBlock Blocks
   pub region_here : slice_get (region_list u.regions) region ≡ Some blocks
   pub block_here : slice_get (block_list blocks) number ≡ Some body
 
-pub body_at : (u : PassedTree) (body : KitBody) → Has body (bodies_of u) → BodyAt u body
+pub body_at : (u : KitTree) (body : KitBody) → Has body (bodies_of u) → BodyAt u body
 body_at u body h =
     let x = from_joined block_list (region_list u.regions) body h in
     let r = index_of_has (region_list u.regions) x.0 x.1 in
     let b = index_of_has (block_list x.0) body x.2 in
     record { region = r.0; number = b.0; blocks = x.0; region_here = r.1; block_here = b.1 }
 
-module _ (t : PassedTree) where
+module _ (t : KitTree) where
   -- the operations of its blocks are occurrences of the tree
-  abbrev pub MembersStand : PassedTree → Type 0
-  MembersStand x = (y : PassedTree) → Lists (members_of x) y → (c : SiteOf KitOperation KitBlock) × Has (occurrence_of c y) (occurrences_of t)
+  abbrev pub MembersStand : KitTree → Type 0
+  MembersStand x = (y : KitTree) → Lists (members_of x) y → (c : SiteOf KitOperation KitBlock) × Has (occurrence_of c y) (occurrences_of t)
 
-  pub members_stand : (s : KitSite) (outer : List PassedTree) → Standing t s outer → MembersStand s.op
+  pub members_stand : (s : KitSite) (outer : List KitTree) → Standing t s outer → MembersStand s.op
   members_stand s outer up y l =
       let x = from_joined (λ (b : KitBody). operation_list b.operations) (bodies_of s.op) y (has_at_index (members_of s.op) l.0 y l.1) in
       let b = body_at s.op x.0 x.1 in
@@ -65,15 +65,15 @@ module _ (g : Gone by_handle) where
     index = j;
   }
 
-module _ (g : Gone by_handle) (t : PassedTree) where
+module _ (g : Gone by_handle) (t : KitTree) where
   -- the operation stays, and then its index is j
-  pub record Old (u : PassedTree) (a : KitAround) (j : ℕ) : Type 0 where
+  pub record Old (u : KitTree) (a : KitAround) (j : ℕ) : Type 0 where
     pub up_around : Option KitAround
     pub new_around : Option KitAround
     pub up : Standing t (record { op = a.owner; around = up_around }) a.outer
     pub new_up : Standing (thin_tree g t) (record { op = thin_tree g a.owner; around = new_around }) (map (thin_tree g) a.outer)
     pub kept : (x : Ptr Operation) → Has x up.spot.around → g.item (Whole x) ≡ false
-    pub members : (x : PassedTree) → Has x (a.owner ∷ a.outer) → MembersStand t x
+    pub members : (x : KitTree) → Has x (a.owner ∷ a.outer) → MembersStand t x
     pub region : ℕ
     pub region_here : slice_get (region_list a.owner.regions) region ≡ Some a.blocks
     pub new_region_here : slice_get (region_list (thin kit g a.owner.regions)) region ≡ Some (thin kit g a.blocks)
@@ -92,19 +92,19 @@ module _ (g : Gone by_handle) (t : PassedTree) where
 
   pub data Came : KitSite → Type 0 where
     at_root : Came (record { op = thin_tree g t; around = None })
-    below : (u : PassedTree) (a : KitAround) (j : ℕ) → Old u a j → Came (record { op = thin_tree g u; around = Some (thin_around g a j) })
+    below : (u : KitTree) (a : KitAround) (j : ℕ) → Old u a j → Came (record { op = thin_tree g u; around = Some (thin_around g a j) })
 
   kept_more : (n : Ptr Operation) (ns : List (Ptr Operation)) → g.item (Whole n) ≡ false → ((x : Ptr Operation) → Has x ns → g.item (Whole x) ≡ false) →
       (x : Ptr Operation) → Has x (n ∷ ns) → g.item (Whole x) ≡ false
   kept_more n ns here others x h = ⊎_elim (λ q. subst (λ z. g.item (Whole z) ≡ false) (sym q) here) (others x) h
 
-  members_more : (u : PassedTree) (us : List PassedTree) → MembersStand t u → ((x : PassedTree) → Has x us → MembersStand t x) → (x : PassedTree) → Has x (u ∷ us) → MembersStand t x
+  members_more : (u : KitTree) (us : List KitTree) → MembersStand t u → ((x : KitTree) → Has x us → MembersStand t x) → (x : KitTree) → Has x (u ∷ us) → MembersStand t x
   members_more u us here others x h = ⊎_elim (λ q. subst (MembersStand t) (sym q) here) (others x) h
 
-  walk : (u : PassedTree) (ar br : Option KitAround) (outer : List PassedTree) (up : Standing t (record { op = u; around = ar }) outer)
+  walk : (u : KitTree) (ar br : Option KitAround) (outer : List KitTree) (up : Standing t (record { op = u; around = ar }) outer)
       (new_up : Standing (thin_tree g t) (record { op = thin_tree g u; around = br }) (map (thin_tree g) outer)) →
       ((x : Ptr Operation) → Has x up.spot.around → g.item (Whole x) ≡ false) →
-      ((x : PassedTree) → Has x (u ∷ outer) → MembersStand t x) →
+      ((x : KitTree) → Has x (u ∷ outer) → MembersStand t x) →
       Came (record { op = thin_tree g u; around = br }) → (p : List ℕ) (s : KitSite) →
       site_from (record { op = thin_tree g u; around = br }) (map (thin_tree g) outer) p ≡ Some s → Came s
   walk u ar br outer up new_up kept members came [] s e = subst Came (some_same (record { op = thin_tree g u; around = br }) s e) came

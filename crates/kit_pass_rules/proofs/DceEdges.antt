@@ -8,9 +8,11 @@ use Rattle.ir_program.specs.declared.handles.BasicBlock.{BasicBlock}
 use Rattle.ir_program.specs.declared.handles.Value.{Value}
 use Rattle.ir_trees.specs.Stands.{by_handle}
 use Rattle.ir_trees.specs.Trees.{Defined}
+use Rattle.kit.specs.Context.{KitTree}
 use Rattle.kit.specs.Dropped.{kept}
 use Rattle.kit.specs.Forwarded.{forwards_once}
 use Rattle.kit.specs.Meaning.{KitOperation, KitBlock, kit, first_size, forwards_of, dropped_of}
+use Rattle.kit_checks.specs.KitWorld.{HasDeclaredTypes, kit_world}
 use Rattle.kit_checks.specs.Rules as rules
 use Rattle.kit_checks.specs.Sites.{block_list}
 use Rattle.kit_checks.specs.Words.{Every, HaveTypes, types_of, is_branch, along_edge, segment, segment_sizes, sizes_in, sizes_or_none}
@@ -23,7 +25,6 @@ use Rattle.kit_ops.specs.declared.types.KitType.{KitType}
 use Rattle.kit_ops.specs.Keys as keys
 use Rattle.kit_ops.specs.Table.{has_interface}
 use Rattle.kit_pass_rules.specs.Laws.{IsGood}
-use Rattle.kit_pass_rules.specs.Worlds.{PassedTree, kit_world, IsTypedIn}
 use Rattle.kit_pass_rules.proofs.DceCame.{KitAround, thin_around, Old}
 use Rattle.kit_pass_rules.proofs.DceMore.{condition_stays}
 use Rattle.kit_pass_rules.proofs.DceRules.{keeps, lost_at, operands_same}
@@ -43,9 +44,9 @@ same_bool true y f g = sym (f refl)
 same_bool false true f g = g refl
 same_bool false false f g = refl
 
-module _ (leads : TypeHandle → Option KitType) (old new : Value → Option TypeHandle) (w : DceAround by_handle IntegerAttr) (t : PassedTree)
-    (good : IsGood leads old t) (g : Gone by_handle) (is_gone : IsGoneExactly kit w t g) (typed : IsTypedIn new (thin_tree g t))
-    (u : PassedTree) (a : KitAround) (j : ℕ) (o : Old g t u a j) where
+module _ (leads : TypeHandle → Option KitType) (old new : Value → Option TypeHandle) (w : DceAround by_handle IntegerAttr) (t : KitTree)
+    (good : IsGood leads old t) (g : Gone by_handle) (is_gone : IsGoneExactly kit w t g) (typed : HasDeclaredTypes new (thin_tree g t))
+    (u : KitTree) (a : KitAround) (j : ℕ) (o : Old g t u a j) where
   abbrev lost : ℕ → Bool
   lost = g.operand u.head.name
 

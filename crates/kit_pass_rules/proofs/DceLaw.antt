@@ -3,8 +3,10 @@ use Rattle.std.proofs.Common.{◌≡◌, [], Option, None, refl, sym, ap, ◌∙
 use Rattle.ir_base.specs.declared.types.TypeHandle.{TypeHandle}
 use Rattle.ir_program.specs.declared.handles.Value.{Value}
 use Rattle.ir_trees.specs.Stands.{by_handle}
+use Rattle.kit.specs.Context.{KitTree}
 use Rattle.kit.specs.Meaning.{kit, dropped_of}
 use Rattle.kit_checks.specs.Faults.{Keeps}
+use Rattle.kit_checks.specs.KitWorld.{HasDeclaredTypes, kit_world}
 use Rattle.kit_checks.specs.Rules as rules
 use Rattle.kit_checks.specs.declared.rule.Rule.{Rule}
 use Rattle.kit_checks.specs.declared.rule.Rule.TheVariants as rule
@@ -12,7 +14,7 @@ use Rattle.kit_ops.specs.declared.attributes.IntegerAttr.{IntegerAttr}
 use Rattle.kit_ops.specs.declared.kinds.KitOp.TheVariants as ops
 use Rattle.kit_ops.specs.declared.types.KitType.{KitType}
 use Rattle.kit_pass_rules.specs.Laws.{IsGood, DceKeepsRules}
-use Rattle.kit_pass_rules.specs.Worlds.{PassedTree, kit_world, IsTypedIn, ObeysIn}
+use Rattle.kit_pass_rules.specs.Worlds.{ObeysIn}
 use Rattle.kit_pass_rules.proofs.DceCame.{KitSite, Came, at_root, below, came_from}
 use Rattle.kit_pass_rules.proofs.DceEdges.{edges_fit}
 use Rattle.kit_pass_rules.proofs.DceMore.{rule_function, rule_constants, rule_attributes, rule_types, rule_returns, rule_calls, rule_format}
@@ -22,15 +24,15 @@ use Rattle.opt_trees.specs.Dialect.{drop}
 use Rattle.opt_trees.specs.Dce.{TreeSurroundings as DceAround, Gone, IsGoneExactly, thin}
 use Rattle.opt_trees.proofs.Lists.{none_some}
 
-module _ (leads : TypeHandle → Option KitType) (old new : Value → Option TypeHandle) (w : DceAround by_handle IntegerAttr) (t : PassedTree)
+module _ (leads : TypeHandle → Option KitType) (old new : Value → Option TypeHandle) (w : DceAround by_handle IntegerAttr) (t : KitTree)
     (good : IsGood leads old t) (g : Gone by_handle) (is_gone : IsGoneExactly kit w t g) where
-  rule_edges : IsTypedIn new (thin_tree g t) → (s : KitSite) → Came g t s → rules.EdgesFit (kit_world leads new) s
+  rule_edges : HasDeclaredTypes new (thin_tree g t) → (s : KitSite) → Came g t s → rules.EdgesFit (kit_world leads new) s
   rule_edges typed _ at_root = λ edge target e.
       let r : rules.EdgesFit (kit_world leads old) (record { op = t; around = None }) = root_keeps leads old new w t good g is_gone rule.EdgesFit in
       let x = r edge target e in absurd (none_some x.0 x.1)
   rule_edges typed _ (below u a j o) = edges_fit leads old new w t good g is_gone typed u a j o
 
-  all_kept : IsTypedIn new (thin_tree g t) → (r : Rule) (s : KitSite) → Came g t s → Keeps (kit_world leads new) r s
+  all_kept : HasDeclaredTypes new (thin_tree g t) → (r : Rule) (s : KitSite) → Came g t s → Keeps (kit_world leads new) r s
   all_kept typed rule.RootIsModule s c = rule_root leads old new w t good g is_gone s c
   all_kept typed rule.ModuleHolds s c = rule_module leads old new w t good g is_gone s c
   all_kept typed rule.FunctionHasType s c = rule_function leads old new w t good g is_gone s c
@@ -66,10 +68,10 @@ module _ (leads : TypeHandle → Option KitType) (old new : Value → Option Typ
         regions = thin kit g t.regions;
       }
 
-  pub left_keeps : (after : PassedTree) → after ≡ record { head = t.head; regions = thin kit g t.regions } → IsTypedIn new after → ObeysIn (kit_world leads new) after
+  pub left_keeps : (after : KitTree) → after ≡ record { head = t.head; regions = thin kit g t.regions } → HasDeclaredTypes new after → ObeysIn (kit_world leads new) after
   left_keeps after e typed =
       let same : thin_tree g t ≡ after = root_same ∙ sym e in
-      subst (ObeysIn (kit_world leads new)) same (λ r p s at. all_kept (subst (IsTypedIn new) (sym same) typed) r s (came_from g t p s at))
+      subst (ObeysIn (kit_world leads new)) same (λ r p s at. all_kept (subst (HasDeclaredTypes new) (sym same) typed) r s (came_from g t p s at))
 
 pub dce_law : DceKeepsRules
 dce_law = λ w leads old new t after good made typed. left_keeps leads old new w t good made.gone made.is_gone after made.is typed

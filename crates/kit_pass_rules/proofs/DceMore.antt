@@ -7,9 +7,11 @@ use Rattle.ir_program.specs.declared.handles.Value.{Value}
 use Rattle.ir_trees.specs.Searched.{Lists}
 use Rattle.ir_trees.specs.Stands.{by_handle}
 use Rattle.ir_trees.specs.Trees.{Defined, Blocks}
+use Rattle.kit.specs.Context.{KitTree}
 use Rattle.kit.specs.Dropped.{kept}
 use Rattle.ir_names.specs.Dictionary.{attribute_at}
 use Rattle.kit.specs.Meaning.{KitOperation, KitBlock, kit, is_function, first_size, forwards_of, dropped_of, without_names}
+use Rattle.kit_checks.specs.KitWorld.{HasDeclaredTypes, kit_world}
 use Rattle.kit_checks.specs.Rules as rules
 use Rattle.kit_checks.specs.Sites.{Listed, operation_list, block_list, region_list}
 use Rattle.kit_checks.specs.Words.{Every, AreAllEqual, HaveTypes, types_of, bodies_of, first_body, members_of, kind_of, is_module, signature, first_module, sizes_in}
@@ -25,7 +27,6 @@ use Rattle.kit_ops.specs.declared.types.KitType.{KitType}
 use Rattle.kit_ops.specs.Keys as keys
 use Rattle.kit_ops.specs.Table.{has_interface}
 use Rattle.kit_pass_rules.specs.Laws.{IsGood}
-use Rattle.kit_pass_rules.specs.Worlds.{PassedTree, kit_world, IsTypedIn}
 use Rattle.kit_pass_rules.proofs.DceCame.{KitAround, KitSite, thin_around, Old, Came, at_root, below}
 use Rattle.kit_pass_rules.proofs.DceRules.{root_keeps, keeps, lost_at, function_stays, operands_stay, operands_same, types_same}
 use Rattle.kit_pass_rules.proofs.DceVisible.{if_not, may_of}
@@ -50,11 +51,11 @@ first_stays : {X : Type 0} (p : ℕ → Bool) (xs : List X) (x : X) → p 0 ≡ 
 first_stays p [] x q e = e
 first_stays p (y ∷ xs) x q e = sym (ap (λ (b : Bool). slice_get (if b then drop (λ i. p (suc i)) xs else y ∷ drop (λ i. p (suc i)) xs) 0) q) ∙ e
 
-module _ (leads : TypeHandle → Option KitType) (old new : Value → Option TypeHandle) (w : DceAround by_handle IntegerAttr) (t : PassedTree)
+module _ (leads : TypeHandle → Option KitType) (old new : Value → Option TypeHandle) (w : DceAround by_handle IntegerAttr) (t : KitTree)
     (good : IsGood leads old t) (g : Gone by_handle) (is_gone : IsGoneExactly kit w t g) where
   -- ---- functions
 
-  argument_stays : (s : KitSite) (outer : List PassedTree) → Standing t s outer → (blocks : Listed KitOperation KitBlock Blocks) (entry : KitBody) →
+  argument_stays : (s : KitSite) (outer : List KitTree) → Standing t s outer → (blocks : Listed KitOperation KitBlock Blocks) (entry : KitBody) →
       slice_get (region_list s.op.regions) 0 ≡ Some blocks → slice_get (block_list blocks) 0 ≡ Some entry → (i : ℕ) (o : Option (Defined Value TypeHandle)) →
       slice_get entry.label.arguments i ≡ o → gone_at g o ≡ false
   argument_stays s outer up blocks entry hr hb i None e = refl
@@ -67,7 +68,7 @@ module _ (leads : TypeHandle → Option KitType) (old new : Value → Option Typ
       let removed : (is_function b.spot.owner.content.kind && not b.spot.first) ≡ true = sym (λ i. is_function (same i).spot.owner.content.kind && not (same i).spot.first) ∙ m.removable in
       and_no (is_function b.spot.owner.content.kind) (sym (ap (λ z. is_function b.spot.owner.content.kind && not z) (b.first refl)) ∙ removed))
 
-  function_body : (s : KitSite) (outer : List PassedTree) → Standing t s outer → rules.HasFunctionBody (kit_world leads old) s.op → rules.HasFunctionBody (kit_world leads new) (thin_tree g s.op)
+  function_body : (s : KitSite) (outer : List KitTree) → Standing t s outer → rules.HasFunctionBody (kit_world leads old) s.op → rules.HasFunctionBody (kit_world leads new) (thin_tree g s.op)
   function_body s outer up h =
       let x = both first_body (slice_get (region_list s.op.regions) 0) h.entry h.has_entry in
       let region : slice_get (region_list (thin kit g s.op.regions)) 0 ≡ Some (thin kit g x.0) =
@@ -97,7 +98,7 @@ module _ (leads : TypeHandle → Option KitType) (old new : Value → Option Typ
 
   -- ---- constants and attributes
 
-  constant_value_kept : (u : PassedTree) → rules.HasConstantValue (kit_world leads old) u → rules.HasConstantValue (kit_world leads new) (thin_tree g u)
+  constant_value_kept : (u : KitTree) → rules.HasConstantValue (kit_world leads old) u → rules.HasConstantValue (kit_world leads new) (thin_tree g u)
   constant_value_kept u h = record { value = h.value; has_value = constant_same leads old new g u ∙ h.has_value; is_type = h.is_type; in_range = h.in_range; results = h.results }
 
   pub rule_constants : (s : KitSite) → Came g t s → rules.ConstantsFit (kit_world leads new) s
@@ -108,7 +109,7 @@ module _ (leads : TypeHandle → Option KitType) (old new : Value → Option Typ
       let r : rules.ConstantsFit (kit_world leads old) (record { op = u; around = Some a }) = keeps leads old new w t good g is_gone u a j o rule.ConstantsFit in
       constant_value_kept u (r e)
 
-  common_blocks : (u : PassedTree) → Every (λ (b : KitBody). Every rules.IsCommon b.label.content.attributes) (bodies_of u) →
+  common_blocks : (u : KitTree) → Every (λ (b : KitBody). Every rules.IsCommon b.label.content.attributes) (bodies_of u) →
       Every (λ (b : KitBody). Every rules.IsCommon b.label.content.attributes) (bodies_of (thin_tree g u))
   common_blocks u h k b e =
       let x = map_at (thin_body g) (bodies_of u) k b (sym (ap (λ l. slice_get l k) (bodies_thin g u)) ∙ e) in
@@ -132,7 +133,7 @@ module _ (leads : TypeHandle → Option KitType) (old new : Value → Option Typ
 
   -- ---- types
 
-  pub condition_stays : (u : PassedTree) (a : KitAround) (j : ℕ) → Old g t u a j → u.head.content.kind ≡ ops.CondBr → g.operand u.head.name 0 ≡ false
+  pub condition_stays : (u : KitTree) (a : KitAround) (j : ℕ) → Old g t u a j → u.head.content.kind ≡ ops.CondBr → g.operand u.head.name 0 ≡ false
   condition_stays u a j o e = if_not (g.operand u.head.name 0) (λ q.
       let c = child_of t (record { op = a.owner; around = o.up_around }) a.outer o.up o.region a.number a.index a.blocks a.body u o.region_here o.block_here o.here in
       let f = lost_at leads old new w t good g is_gone (occurrence_of (within c.spot a.body) u) c.here 0 q in
@@ -140,8 +141,8 @@ module _ (leads : TypeHandle → Option KitType) (old new : Value → Option Typ
       (sym (ap (λ k. slice_get (forwards_of k (first_size u.head.content.notes.attributes) (length u.head.operands) f.1.edge) f.1.place) e) ∙ f.1.gives) in
       omega (arith, z))
 
-  module _ (typed : IsTypedIn new (thin_tree g t)) where
-    kind_types : (u : PassedTree) (a : KitAround) (j : ℕ) → Old g t u a j → (k : KitOp) → u.head.content.kind ≡ k →
+  module _ (typed : HasDeclaredTypes new (thin_tree g t)) where
+    kind_types : (u : KitTree) (a : KitAround) (j : ℕ) → Old g t u a j → (k : KitOp) → u.head.content.kind ≡ k →
         rules.HasKindTypes (kit_world leads old) u k → rules.HasKindTypes (kit_world leads new) (thin_tree g u) k
     kind_types u a j o (ops.Arithmetic x) e h =
         subst AreAllEqual (sym (ap (λ l. l ++ map Some (types_of u.head.results)) (types_same leads old new w t good g is_gone u a j o typed (ap (λ k. has_interface k op.Branch) e ∙ refl)))) h
@@ -162,7 +163,7 @@ module _ (leads : TypeHandle → Option KitType) (old new : Value → Option Typ
 
     -- ---- calls and returns
 
-    have_types : (u : PassedTree) (a : KitAround) (j : ℕ) → Old g t u a j → has_interface u.head.content.kind op.Branch ≡ false → (hs : List TypeHandle) →
+    have_types : (u : KitTree) (a : KitAround) (j : ℕ) → Old g t u a j → has_interface u.head.content.kind op.Branch ≡ false → (hs : List TypeHandle) →
         HaveTypes (kit_world leads old) u.head.operands hs → HaveTypes (kit_world leads new) (drop (g.operand u.head.name) u.head.operands) hs
     have_types u a j o none hs h = types_same leads old new w t good g is_gone u a j o typed none ∙ h
 
@@ -175,7 +176,7 @@ module _ (leads : TypeHandle → Option KitType) (old new : Value → Option Typ
         have_types u a j o (ap (λ k. has_interface k op.Branch) e) f.results.items
         (r e a f (refl, ap (λ (z : KitAround). kind_of (kit_world leads new) z.owner) same ∙ h.1) signed)
 
-    first_module_left : (us : List PassedTree) (s : PassedTree) → first_module (kit_world leads old) us ≡ Some s →
+    first_module_left : (us : List KitTree) (s : KitTree) → first_module (kit_world leads old) us ≡ Some s →
         Has s us × (first_module (kit_world leads new) (map (thin_tree g) us) ≡ Some (thin_tree g s))
     first_module_left [] s e = absurd (none_some s e)
     first_module_left (u ∷ us) s e = step (is_module u.head.content.kind) e (first_module_left us s)
@@ -186,7 +187,7 @@ module _ (leads : TypeHandle → Option KitType) (old new : Value → Option Typ
         step true q ih = let z : u ≡ s = some_same u s q in (inl (sym z), ap (λ x. Some (thin_tree g x)) z)
         step false q ih = let r = ih q in (inr r.0, r.1)
 
-    member_left : (x y : PassedTree) → Lists (members_of x) y → goes g y ≡ false → Lists (members_of (thin_tree g x)) (thin_tree g y)
+    member_left : (x y : KitTree) → Lists (members_of x) y → goes g y ≡ false → Lists (members_of (thin_tree g x)) (thin_tree g y)
     member_left x y l q =
         let b = from_joined (λ (b : KitBody). operation_list b.operations) (bodies_of x) y (has_at_index (members_of x) l.0 y l.1) in
         let body : KitBody = b.0 in
@@ -198,7 +199,7 @@ module _ (leads : TypeHandle → Option KitType) (old new : Value → Option Typ
         index_of_has (members_of (thin_tree g x)) (thin_tree g y)
         (in_joined (λ (b : KitBody). operation_list b.operations) (bodies_of (thin_tree g x)) (thin_body g body) (thin_tree g y) bodies ops)
 
-    calls : (u : PassedTree) (a : KitAround) (j : ℕ) → Old g t u a j → u.head.content.kind ≡ ops.Call →
+    calls : (u : KitTree) (a : KitAround) (j : ℕ) → Old g t u a j → u.head.content.kind ≡ ops.Call →
         rules.CallsFunction (kit_world leads old) u a → rules.CallsFunction (kit_world leads new) (thin_tree g u) (thin_around g a j)
     calls u a j o e h =
         let m = first_module_left (a.owner ∷ a.outer) h.scope h.nearest in
@@ -232,14 +233,14 @@ module _ (leads : TypeHandle → Option KitType) (old new : Value → Option Typ
 
   -- ---- formats
 
-  counts : (u : PassedTree) (r s n : ℕ) → rules.Counts u r s n → rules.Counts (thin_tree g u) r s n
+  counts : (u : KitTree) (r s n : ℕ) → rules.Counts u r s n → rules.Counts (thin_tree g u) r s n
   counts u r s n h = record {
     results = h.results;
     successors = h.successors;
     regions = ap length (regions_thin g u.regions) ∙ (length-map (λ (bs : Listed KitOperation KitBlock Blocks). thin kit g bs) (region_list u.regions) ∙ h.regions);
   }
 
-  segments : (u : PassedTree) → u.head.content.kind ≡ ops.CondBr → g.operand u.head.name 0 ≡ false → rules.HasSegments (kit_world leads old) u → rules.HasSegments (kit_world leads new) (thin_tree g u)
+  segments : (u : KitTree) → u.head.content.kind ≡ ops.CondBr → g.operand u.head.name 0 ≡ false → rules.HasSegments (kit_world leads old) u → rules.HasSegments (kit_world leads new) (thin_tree g u)
   segments u e stays h =
       let p : ℕ → Bool = g.operand u.head.name in
       let first : ℕ = h.2.0 in
@@ -265,7 +266,7 @@ module _ (leads : TypeHandle → Option KitType) (old new : Value → Option Typ
       many : (xs ys : List Value) (a b : ℕ) → length xs ≡ a → length ys ≡ b → suc (length (xs ++ ys)) ≡ 1 + a + b
       many xs ys a b ea eb = let e : length (xs ++ ys) ≡ length xs + length ys = append_count xs ys in omega (arith, ea, eb)
 
-  fits : (u : PassedTree) → (has_interface u.head.content.kind op.Branch ≡ false → drop (g.operand u.head.name) u.head.operands ≡ u.head.operands) →
+  fits : (u : KitTree) → (has_interface u.head.content.kind op.Branch ≡ false → drop (g.operand u.head.name) u.head.operands ≡ u.head.operands) →
       (u.head.content.kind ≡ ops.CondBr → g.operand u.head.name 0 ≡ false) → (k : KitOp) → u.head.content.kind ≡ k →
       rules.FitsKind (kit_world leads old) u k → rules.FitsKind (kit_world leads new) (thin_tree g u) k
   fits u same stays ops.Module e h = (counts u 0 0 1 h.0, ap length (same (ap (λ k. has_interface k op.Branch) e)) ∙ h.1, (h.2.0, symbol_same leads old new g u ∙ h.2.1))

@@ -6,8 +6,10 @@ use Rattle.ir_program.specs.declared.handles.Value.{Value}
 use Rattle.ir_trees.specs.Searched.{Lists}
 use Rattle.ir_trees.specs.Stands.{by_handle}
 use Rattle.ir_trees.specs.Trees.{Defined, Blocks}
+use Rattle.kit.specs.Context.{KitTree}
 use Rattle.kit.specs.Meaning.{KitOperation, KitBlock, kit}
 use Rattle.kit_checks.specs.Faults.{Keeps}
+use Rattle.kit_checks.specs.KitWorld.{HasDeclaredTypes, kit_world}
 use Rattle.kit_checks.specs.Rules as rules
 use Rattle.kit_checks.specs.Sites.{Listed, operation_list, block_list, region_list}
 use Rattle.kit_checks.specs.Words.{Every, IsValueType, types_of, bodies_of, kind_of, is_terminator, symbol_name, visible}
@@ -20,7 +22,6 @@ use Rattle.kit_ops.specs.declared.kinds.KitOp.TheVariants as ops
 use Rattle.kit_ops.specs.declared.types.KitType.{KitType}
 use Rattle.kit_ops.specs.Table.{row_of, has_interface}
 use Rattle.kit_pass_rules.specs.Laws.{IsGood}
-use Rattle.kit_pass_rules.specs.Worlds.{PassedTree, kit_world, IsTypedIn}
 use Rattle.kit_pass_rules.proofs.DceCame.{KitAround, KitSite, body_at, thin_around, Old, Came, at_root, below}
 use Rattle.kit_pass_rules.proofs.DceVisible.{if_not, may_of, visible_left, names, visible_same}
 use Rattle.kit_pass_rules.proofs.Heads.{symbol_same, ends}
@@ -35,7 +36,7 @@ use Rattle.opt_trees.specs.Occurrences.{Has, occurrences_of}
 use Rattle.opt_trees.proofs.Lists.{some_same, none_some}
 use Rattle.opt_trees.proofs.NoneDead.{true_false}
 
-module _ (leads : TypeHandle → Option KitType) (old new : Value → Option TypeHandle) (w : DceAround by_handle IntegerAttr) (t : PassedTree)
+module _ (leads : TypeHandle → Option KitType) (old new : Value → Option TypeHandle) (w : DceAround by_handle IntegerAttr) (t : KitTree)
     (good : IsGood leads old t) (g : Gone by_handle) (is_gone : IsGoneExactly kit w t g) where
   abbrev pub before : World KitOperation KitBlock
   before = kit_world leads old
@@ -48,14 +49,14 @@ module _ (leads : TypeHandle → Option KitType) (old new : Value → Option Typ
   pub root_keeps : (r : Rule) → Keeps before r (record { op = t; around = None })
   root_keeps r = good.obeys r [] (record { op = t; around = None }) refl
 
-  pub child_keeps : (s : KitSite) (outer : List PassedTree) (up : Standing t s outer) (r b k : ℕ) (blocks : Listed KitOperation KitBlock Blocks) (body : KitBody) (u : PassedTree) →
+  pub child_keeps : (s : KitSite) (outer : List KitTree) (up : Standing t s outer) (r b k : ℕ) (blocks : Listed KitOperation KitBlock Blocks) (body : KitBody) (u : KitTree) →
       slice_get (region_list s.op.regions) r ≡ Some blocks → slice_get (block_list blocks) b ≡ Some body → slice_get (operation_list body.operations) k ≡ Some u →
       (q : Rule) → Keeps before q (step_to s outer blocks b body k u)
   child_keeps s outer up r b k blocks body u hr hb hk q =
       let c = child_of t s outer up r b k blocks body u hr hb hk in
       good.obeys q c.place (step_to s outer blocks b body k u) c.at_place
 
-  pub keeps : (u : PassedTree) (a : KitAround) (j : ℕ) → Old g t u a j → (q : Rule) → Keeps before q (record { op = u; around = Some a })
+  pub keeps : (u : KitTree) (a : KitAround) (j : ℕ) → Old g t u a j → (q : Rule) → Keeps before q (record { op = u; around = Some a })
   keeps u a j o q = child_keeps (record { op = a.owner; around = o.up_around }) a.outer o.up o.region a.number a.index a.blocks a.body u o.region_here o.block_here o.here q
 
   -- a terminator stays
@@ -75,7 +76,7 @@ module _ (leads : TypeHandle → Option KitType) (old new : Value → Option Typ
       (subst (λ (z : OccurrenceOf KitOperation KitBlock). (row_of z.head.content.kind).has_effects ≡ false) same m.pure))
 
   -- the last operation of a block of a function stays
-  last_stays : (s : KitSite) (outer : List PassedTree) → Standing t s outer → kind_of before s.op ≡ ops.Func → (r b : ℕ) (blocks : Listed KitOperation KitBlock Blocks) (body : KitBody) →
+  last_stays : (s : KitSite) (outer : List KitTree) → Standing t s outer → kind_of before s.op ≡ ops.Func → (r b : ℕ) (blocks : Listed KitOperation KitBlock Blocks) (body : KitBody) →
       slice_get (region_list s.op.regions) r ≡ Some blocks → slice_get (block_list blocks) b ≡ Some body → LastStays (goes g) (operation_list body.operations)
   last_stays s outer up is_func r b blocks body hr hb i z hk last =
       let k : rules.BlocksEnd before (step_to s outer blocks b body i z) = child_keeps s outer up r b i blocks body z hr hb hk rule.BlocksEnd in
@@ -95,7 +96,7 @@ module _ (leads : TypeHandle → Option KitType) (old new : Value → Option Typ
       let l = is_gone.lost x.head.name i q in
       subst (λ (z : OccurrenceOf KitOperation KitBlock). has_interface z.head.content.kind op.Branch ≡ true) (good.apart.operations l.user x l.stands h l.name) l.forwards.branch
 
-  module _ (u : PassedTree) (a : KitAround) (j : ℕ) (o : Old g t u a j) where
+  module _ (u : KitTree) (a : KitAround) (j : ℕ) (o : Old g t u a j) where
     pub operands_stay : has_interface u.head.content.kind op.Branch ≡ false → drop (g.operand u.head.name) u.head.operands ≡ u.head.operands
     operands_stay none =
         let c = child_of t (record { op = a.owner; around = o.up_around }) a.outer o.up o.region a.number a.index a.blocks a.body u o.region_here o.block_here o.here in
@@ -110,7 +111,7 @@ module _ (leads : TypeHandle → Option KitType) (old new : Value → Option Typ
         let l = r.inside a refl d.index v d.here in
         visible_left w t g is_gone u a j o v (names w t g is_gone u a j o d.index v d.here d.stays) (has_at_index (visible a) l.0 v l.1)
 
-    module _ (typed : IsTypedIn new (thin_tree g t)) where
+    module _ (typed : HasDeclaredTypes new (thin_tree g t)) where
       pub operands_same : Every (λ v. new v ≡ old v) (drop (g.operand u.head.name) u.head.operands)
       operands_same k v e = visible_same leads old new t good g typed u a j o v (operands_visible k v e)
 
@@ -133,7 +134,7 @@ module _ (leads : TypeHandle → Option KitType) (old new : Value → Option Typ
   rule_root _ at_root = λ e. let r : rules.RootIsModule before (record { op = t; around = None }) = root_keeps rule.RootIsModule in r refl
   rule_root _ (below u a j o) = λ e. absurd (none_some (thin_around g a j) (sym e))
 
-  module_body : (u : PassedTree) → rules.HasModuleBody u → rules.HasModuleBody (thin_tree g u)
+  module_body : (u : KitTree) → rules.HasModuleBody u → rules.HasModuleBody (thin_tree g u)
   module_body u h = record {
     body = thin_body g h.body;
     one = ap (map block_list) (regions_thin g u.regions) ∙ (lists (region_list u.regions) ∙ ap (map (map (thin_body g))) h.one);
@@ -144,7 +145,7 @@ module _ (leads : TypeHandle → Option KitType) (old new : Value → Option Typ
       lists [] = refl
       lists (bs ∷ rs) = λ i. blocks_thin g bs i ∷ lists rs i
 
-  fresh_name : (u : PassedTree) (a : KitAround) (j : ℕ) → Old g t u a j → rules.HasFreshName before a u → rules.HasFreshName after (thin_around g a j) (thin_tree g u)
+  fresh_name : (u : KitTree) (a : KitAround) (j : ℕ) → Old g t u a j → rules.HasFreshName before a u → rules.HasFreshName after (thin_around g a j) (thin_tree g u)
   fresh_name u a j o fresh k other name less here named own =
       let xs = operation_list a.body.operations in
       let listed : slice_get (map (thin_tree g) (left (goes g) xs)) k ≡ Some other = sym (ap (λ l. slice_get l k) (operations_thin g a.body.operations)) ∙ here in
@@ -185,7 +186,7 @@ module _ (leads : TypeHandle → Option KitType) (old new : Value → Option Typ
       let x = dropped_at p body.label.arguments k d.0 d.1 in
       h x.index ty (map_get (λ (d : Defined Value TypeHandle). d.holds) body.label.arguments x.index d.0 x.here ∙ ap Some d.2)
 
-  value_types : (u : PassedTree) → Every (λ (b : KitBody). Every (IsValueType before) (types_of b.label.arguments)) (bodies_of u) →
+  value_types : (u : KitTree) → Every (λ (b : KitBody). Every (IsValueType before) (types_of b.label.arguments)) (bodies_of u) →
       Every (λ (b : KitBody). Every (IsValueType after) (types_of b.label.arguments)) (bodies_of (thin_tree g u))
   value_types u h k b e =
       let x = map_at (thin_body g) (bodies_of u) k b (sym (ap (λ l. slice_get l k) (bodies_thin g u)) ∙ e) in
@@ -201,7 +202,7 @@ module _ (leads : TypeHandle → Option KitType) (old new : Value → Option Typ
 
   -- ---- ends of blocks
 
-  filled : (s : KitSite) (outer : List PassedTree) → Standing t s outer → (kind_of before s.op ≡ ops.Func → Every (λ (b : KitBody). operation_list b.operations ≢ []) (bodies_of s.op)) →
+  filled : (s : KitSite) (outer : List KitTree) → Standing t s outer → (kind_of before s.op ≡ ops.Func → Every (λ (b : KitBody). operation_list b.operations ≢ []) (bodies_of s.op)) →
       kind_of after (thin_tree g s.op) ≡ ops.Func → Every (λ (b : KitBody). operation_list b.operations ≢ []) (bodies_of (thin_tree g s.op))
   filled s outer up h is_func k b e none =
       let x = map_at (thin_body g) (bodies_of s.op) k b (sym (ap (λ l. slice_get l k) (bodies_thin g s.op)) ∙ e) in

@@ -7,14 +7,15 @@ use Rattle.ir_program.specs.declared.handles.Operation.{Operation}
 use Rattle.ir_program.specs.declared.handles.Value.{Value}
 use Rattle.ir_trees.specs.Stands.{by_handle}
 use Rattle.ir_trees.specs.Trees.{Defined}
+use Rattle.kit.specs.Context.{KitTree}
 use Rattle.kit.specs.Meaning.{KitOperation, KitBlock, kit}
+use Rattle.kit_checks.specs.KitWorld.{HasDeclaredTypes}
 use Rattle.kit_checks.specs.Sites.{operation_list, block_list}
 use Rattle.kit_checks.specs.Words.{values_of, results_of, values_before, values_in, values_if, first_body, visible}
 use Rattle.kit_checks.proofs.Passed.{from_joined, in_joined}
 use Rattle.kit_ops.specs.declared.attributes.IntegerAttr.{IntegerAttr}
 use Rattle.kit_ops.specs.declared.types.KitType.{KitType}
 use Rattle.kit_pass_rules.specs.Laws.{IsGood}
-use Rattle.kit_pass_rules.specs.Worlds.{PassedTree, IsTypedIn}
 use Rattle.kit_pass_rules.proofs.DceCame.{KitAround, thin_around, Old}
 use Rattle.kit_pass_rules.proofs.Left.{left, origin, has_left_over}
 use Rattle.kit_pass_rules.proofs.Lists.{map_get, map_at, from_take, has_at_index, index_of_has}
@@ -30,7 +31,7 @@ pub if_not : (b : Bool) → (b ≡ true → ⊥) → b ≡ false
 if_not true h = absurd (h refl)
 if_not false h = refl
 
-module _ (w : TreeSurroundings by_handle IntegerAttr) (t : PassedTree) where
+module _ (w : TreeSurroundings by_handle IntegerAttr) (t : KitTree) where
   excuse : (x : Item by_handle) → IsDead kit w t x → (v : Value) (o : OccurrenceOf KitOperation KitBlock) (i : ℕ) →
       IsUseOfItem t x v o → Use t v o i → IsExcused kit w t o i
   excuse _ (dies x may kept uses) = uses
@@ -76,10 +77,10 @@ module _ (w : TreeSurroundings by_handle IntegerAttr) (t : PassedTree) where
         (has-map (λ (d : Defined Value TypeHandle). d.name) d.0 (drop (λ i. gone_at g (slice_get body.label.arguments i)) body.label.arguments)
         (has_dropped (λ i. gone_at g (slice_get body.label.arguments i)) body.label.arguments d.0 i.0 d.1 stays))
 
-    module _ (u : PassedTree) (a : KitAround) (j : ℕ) (o : Old g t u a j) where
+    module _ (u : KitTree) (a : KitAround) (j : ℕ) (o : Old g t u a j) where
       -- an operation of a block around stays, where its result is named
       member_stays : (v : Value) → Named v → (b : ℕ) (body : KitBody) → slice_get (block_list a.blocks) b ≡ Some body →
-          (k : ℕ) (x : PassedTree) → slice_get (operation_list body.operations) k ≡ Some x → Has v (values_of x.head.results) → goes g x ≡ false
+          (k : ℕ) (x : KitTree) → slice_get (operation_list body.operations) k ≡ Some x → Has v (values_of x.head.results) → goes g x ≡ false
       member_stays v n b body hb k x hk has =
           let c = child_of t (record { op = a.owner; around = o.up_around }) a.outer o.up o.region b k a.blocks body x o.region_here hb hk in
           result_stays v n (occurrence_of (within c.spot body) x) c.here has
@@ -88,25 +89,25 @@ module _ (w : TreeSurroundings by_handle IntegerAttr) (t : PassedTree) where
           Has v (results_of (take j (operation_list (thin kit g a.body.operations))))
       own_results v n h =
           let ops = operation_list a.body.operations in
-          let x = from_joined (λ (z : PassedTree). values_of z.head.results) (take a.index ops) v h in
+          let x = from_joined (λ (z : KitTree). values_of z.head.results) (take a.index ops) v h in
           let i = index_of_has (take a.index ops) x.0 x.1 in
           let at = from_take ops a.index i.0 x.0 i.1 in
           let stays = member_stays v n a.number a.body o.block_here i.0 x.0 at.1 x.2 in
           let is_left : Has (thin_tree g x.0) (map (thin_tree g) (left (goes g) (take a.index ops))) = has_left_over (goes g) (thin_tree g) (take a.index ops) x.0 x.1 stays in
           let there : Has (thin_tree g x.0) (take j (operation_list (thin kit g a.body.operations))) =
           subst (λ l. Has (thin_tree g x.0) (take j l)) (sym (operations_thin g a.body.operations)) (subst (Has (thin_tree g x.0)) (sym o.before) is_left) in
-          in_joined (λ (z : PassedTree). values_of z.head.results) (take j (operation_list (thin kit g a.body.operations))) (thin_tree g x.0) v there x.2
+          in_joined (λ (z : KitTree). values_of z.head.results) (take j (operation_list (thin kit g a.body.operations))) (thin_tree g x.0) v there x.2
 
       all_results : (v : Value) → Named v → (b : ℕ) (body : KitBody) → slice_get (block_list a.blocks) b ≡ Some body →
           Has v (results_of (operation_list body.operations)) → Has v (results_of (operation_list (thin kit g body.operations)))
       all_results v n b body hb h =
           let ops = operation_list body.operations in
-          let x = from_joined (λ (z : PassedTree). values_of z.head.results) ops v h in
+          let x = from_joined (λ (z : KitTree). values_of z.head.results) ops v h in
           let i = index_of_has ops x.0 x.1 in
           let stays = member_stays v n b body hb i.0 x.0 i.1 x.2 in
           let there : Has (thin_tree g x.0) (operation_list (thin kit g body.operations)) =
           subst (Has (thin_tree g x.0)) (sym (operations_thin g body.operations)) (has_left_over (goes g) (thin_tree g) ops x.0 x.1 stays) in
-          in_joined (λ (z : PassedTree). values_of z.head.results) (operation_list (thin kit g body.operations)) (thin_tree g x.0) v there x.2
+          in_joined (λ (z : KitTree). values_of z.head.results) (operation_list (thin kit g body.operations)) (thin_tree g x.0) v there x.2
 
       entry_left : (v : Value) → Named v → (e : Option KitBody) (f : Option KitBody) → slice_get (block_list a.blocks) 0 ≡ e → slice_get (block_list (thin kit g a.blocks)) 0 ≡ f →
           Has v (values_if e) → Has v (values_if f)
@@ -150,8 +151,8 @@ module _ (w : TreeSurroundings by_handle IntegerAttr) (t : PassedTree) where
 
 -- ---- types
 
-module _ (leads : TypeHandle → Option KitType) (old new : Value → Option TypeHandle) (t : PassedTree) (good : IsGood leads old t)
-    (g : Gone by_handle) (typed : IsTypedIn new (thin_tree g t)) (u : PassedTree) (a : KitAround) (j : ℕ) (o : Old g t u a j) where
+module _ (leads : TypeHandle → Option KitType) (old new : Value → Option TypeHandle) (t : KitTree) (good : IsGood leads old t)
+    (g : Gone by_handle) (typed : HasDeclaredTypes new (thin_tree g t)) (u : KitTree) (a : KitAround) (j : ℕ) (o : Old g t u a j) where
   arguments_same : (b : ℕ) (body : KitBody) → slice_get (block_list a.blocks) b ≡ Some body → (v : Value) →
       Has v (values_of (thin_body g body).label.arguments) → new v ≡ old v
   arguments_same b body hb v h =
@@ -166,14 +167,14 @@ module _ (leads : TypeHandle → Option KitType) (old new : Value → Option Typ
       let after : new d.0.name ≡ Some d.0.holds = typed.arguments (block_of y.spot (thin_body g body)) y.block d.0 (has_at_index (drop picks body.label.arguments) i.0 d.0 d.1) in
       subst (λ z. new z ≡ old z) d.2 (after ∙ sym before)
 
-  results_same : (b : ℕ) (body : KitBody) → slice_get (block_list a.blocks) b ≡ Some body → (k : ℕ) (x : PassedTree) →
+  results_same : (b : ℕ) (body : KitBody) → slice_get (block_list a.blocks) b ≡ Some body → (k : ℕ) (x : KitTree) →
       slice_get (operation_list (thin kit g body.operations)) k ≡ Some x → (v : Value) → Has v (values_of x.head.results) → new v ≡ old v
   results_same b body hb k x hk v h =
       let there : slice_get (block_list (thin kit g a.blocks)) b ≡ Some (thin_body g body) = ap (λ l. slice_get l b) (blocks_thin g a.blocks) ∙ map_get (thin_body g) (block_list a.blocks) b body hb in
       let was = origin (goes g) (thin_tree g) (operation_list body.operations) k x (sym (ap (λ l. slice_get l k) (operations_thin g body.operations)) ∙ hk) in
       let c = child_of t (record { op = a.owner; around = o.up_around }) a.outer o.up o.region b was.index a.blocks body was.it o.region_here hb was.here in
       let e = child_of (thin_tree g t) (record { op = thin_tree g a.owner; around = o.new_around }) (map (thin_tree g) a.outer) o.new_up o.region b k (thin kit g a.blocks) (thin_body g body) x o.new_region_here there hk in
-      let results : was.it.head.results ≡ x.head.results = ap (λ (z : PassedTree). z.head.results) was.is in
+      let results : was.it.head.results ≡ x.head.results = ap (λ (z : KitTree). z.head.results) was.is in
       let i = index_of_has (values_of x.head.results) v h in
       let d = map_at (λ (d : Defined Value TypeHandle). d.name) x.head.results i.0 v i.1 in
       let has : Has d.0 x.head.results = has_at_index x.head.results i.0 d.0 d.1 in
@@ -184,14 +185,14 @@ module _ (leads : TypeHandle → Option KitType) (old new : Value → Option Typ
   listed_same : (b : ℕ) (body : KitBody) → slice_get (block_list a.blocks) b ≡ Some body → (v : Value) →
       Has v (results_of (operation_list (thin kit g body.operations))) → new v ≡ old v
   listed_same b body hb v h =
-      let x = from_joined (λ (z : PassedTree). values_of z.head.results) (operation_list (thin kit g body.operations)) v h in
+      let x = from_joined (λ (z : KitTree). values_of z.head.results) (operation_list (thin kit g body.operations)) v h in
       let i = index_of_has (operation_list (thin kit g body.operations)) x.0 x.1 in
       results_same b body hb i.0 x.0 i.1 v x.2
 
   taken_same : (v : Value) → Has v (results_of (take j (operation_list (thin kit g a.body.operations)))) → new v ≡ old v
   taken_same v h =
       let ops = operation_list (thin kit g a.body.operations) in
-      let x = from_joined (λ (z : PassedTree). values_of z.head.results) (take j ops) v h in
+      let x = from_joined (λ (z : KitTree). values_of z.head.results) (take j ops) v h in
       let i = index_of_has (take j ops) x.0 x.1 in
       let at = from_take ops j i.0 x.0 i.1 in
       results_same a.number a.body o.block_here i.0 x.0 at.1 v x.2

@@ -10,7 +10,9 @@ use Rattle.ir_program.specs.declared.handles.Value.{Value}
 use Rattle.ir_trees.specs.Renames.{names_of}
 use Rattle.ir_trees.specs.Stands.{by_handle}
 use Rattle.ir_trees.specs.Trees.{Defined}
+use Rattle.kit.specs.Context.{KitTree}
 use Rattle.kit.specs.Meaning.{KitOperation, KitBlock, kit, range, forwards_of, first_size}
+use Rattle.kit_checks.specs.KitWorld.{kit_world}
 use Rattle.kit_checks.specs.Rules as rules
 use Rattle.kit_checks.specs.Words.{types_of, is_branch, along_edge, segment, segment_sizes, sizes_or_none}
 use Rattle.kit_checks.specs.declared.rule.Rule.TheVariants as rule
@@ -20,7 +22,6 @@ use Rattle.kit_ops.specs.declared.kinds.KitOp.TheVariants as ops
 use Rattle.kit_ops.specs.declared.types.KitType.{KitType}
 use Rattle.kit_ops.specs.Table.{has_interface}
 use Rattle.kit_pass_rules.specs.Laws.{IsGood}
-use Rattle.kit_pass_rules.specs.Worlds.{PassedTree, kit_world}
 use Rattle.kit_pass_rules.proofs.DceCame.{KitAround}
 use Rattle.kit_pass_rules.proofs.FactsClosed.{lowered, asked_lower, arguments_below, rule_here}
 use Rattle.kit_pass_rules.proofs.FactsFit.{Tests}
@@ -58,7 +59,7 @@ picks_run ps (x ∷ fs) ss n (suc m) e f =
     (ap (λ l. picks l (range (suc n) m)) (sym (append_assoc ps (x ∷ []) (fs ++ ss)))
     ∙ picks_run (ps ++ (x ∷ [])) fs ss (suc n) m (one_more ps x n e) (omega (arith, f)))
 
-module _ (leads : TypeHandle → Option KitType) (old : Value → Option TypeHandle) (t : PassedTree) (good : IsGood leads old t)
+module _ (leads : TypeHandle → Option KitType) (old : Value → Option TypeHandle) (t : KitTree) (good : IsGood leads old t)
     (test : Option TypeHandle → IntegerAttr → Bool) (tests : Tests leads test) (k : Facts by_handle IntegerAttr)
     (o : OccurrenceOf KitOperation KitBlock) (stands : Has o (occurrences_of t)) (l : Located t o) where
   cond_forwarded : (n : ℕ) (edge : ℕ) → edge ≡ n → edge < 2 → l.u.head.content.kind ≡ ops.CondBr → rules.HasSegments (kit_world leads old) l.u →

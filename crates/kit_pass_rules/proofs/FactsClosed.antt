@@ -7,15 +7,16 @@ use Rattle.ir_program.specs.declared.handles.Value.{Value}
 use Rattle.ir_trees.specs.Renames.{names_of}
 use Rattle.ir_trees.specs.Stands.{by_handle}
 use Rattle.ir_trees.specs.Trees.{Sort, end, operation, block, region}
+use Rattle.kit.specs.Context.{KitTree}
 use Rattle.kit.specs.Meaning.{KitOperation, KitBlock, of_both}
 use Rattle.kit_checks.specs.Faults.{Keeps}
+use Rattle.kit_checks.specs.KitWorld.{kit_world}
 use Rattle.kit_checks.specs.Sites.{Listed}
 use Rattle.kit_checks.specs.declared.rule.Rule.{Rule}
 use Rattle.kit_checks.proofs.Down.{step_to}
 use Rattle.kit_ops.specs.declared.attributes.IntegerAttr.{IntegerAttr}
 use Rattle.kit_ops.specs.declared.types.KitType.{KitType}
 use Rattle.kit_pass_rules.specs.Laws.{IsGood}
-use Rattle.kit_pass_rules.specs.Worlds.{PassedTree, kit_world}
 use Rattle.kit_pass_rules.proofs.FactsFit.{Right, Tests}
 use Rattle.kit_pass_rules.proofs.Located.{Located}
 use Rattle.kit_pass_rules.proofs.Walk.{OccurrenceOf, child_of}
@@ -26,7 +27,7 @@ use Rattle.opt_trees.specs.Facts.{Facts, EntriesRun}
 use Rattle.opt_trees.specs.Occurrences.{Has, occurrences_of}
 use Rattle.opt_trees.proofs.Lists.{some_same, none_some}
 
-module _ (leads : TypeHandle → Option KitType) (old : Value → Option TypeHandle) (t : PassedTree) (good : IsGood leads old t)
+module _ (leads : TypeHandle → Option KitType) (old : Value → Option TypeHandle) (t : KitTree) (good : IsGood leads old t)
     (test : Option TypeHandle → IntegerAttr → Bool) (tests : Tests leads test) (k : Facts by_handle IntegerAttr) where
   -- what is known rightly; of what is known wrongly nothing
   abbrev pub lower : Option TypeHandle → Known IntegerAttr → Known IntegerAttr

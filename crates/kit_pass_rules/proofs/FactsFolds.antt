@@ -7,8 +7,10 @@ use Rattle.ir_program.specs.declared.handles.Value.{Value}
 use Rattle.ir_trees.specs.Renames.{names_of}
 use Rattle.ir_trees.specs.Stands.{by_handle}
 use Rattle.ir_trees.specs.Trees.{Defined}
+use Rattle.kit.specs.Context.{KitTree}
 use Rattle.kit.specs.Meaning as kit_meaning
 use Rattle.kit.specs.Meaning.{KitOperation, KitBlock, kit, calculated, compared, value_of, if_of_type, fold_of}
+use Rattle.kit_checks.specs.KitWorld.{kit_world}
 use Rattle.kit_checks.specs.Rules as rules
 use Rattle.kit_checks.specs.Words.{types_of}
 use Rattle.kit_checks.specs.Words as words
@@ -22,7 +24,6 @@ use Rattle.kit_ops.specs.declared.types.KitType.{KitType}
 use Rattle.kit_ops.specs.Keys as keys
 use Rattle.kit_ops.specs.Table.{has_interface}
 use Rattle.kit_pass_rules.specs.Laws.{IsGood}
-use Rattle.kit_pass_rules.specs.Worlds.{PassedTree, kit_world}
 use Rattle.kit_pass_rules.proofs.FactsClosed.{lowered, all_any, SameOf, asked_lower, all_below, rule_here, two}
 use Rattle.kit_pass_rules.proofs.FactsFit.{Right, Tests, of_type, of_integer, calculated_right, compared_right}
 use Rattle.kit_pass_rules.proofs.Located.{Located}
@@ -43,7 +44,7 @@ integers_alike None = refl
 integers_alike (Some (attrs.Integer a)) = refl
 integers_alike (Some a) = refl
 
-module _ (leads : TypeHandle → Option KitType) (old : Value → Option TypeHandle) (t : PassedTree) (good : IsGood leads old t)
+module _ (leads : TypeHandle → Option KitType) (old : Value → Option TypeHandle) (t : KitTree) (good : IsGood leads old t)
     (test : Option TypeHandle → IntegerAttr → Bool) (tests : Tests leads test) (k : Facts by_handle IntegerAttr)
     (o : OccurrenceOf KitOperation KitBlock) (stands : Has o (occurrences_of t)) (l : Located t o) where
   count_one : (K : KitOp) → has_interface K op.ConstFold ≡ true → rules.FitsKind (kit_world leads old) l.u K → length l.u.head.results ≡ 1

@@ -10,8 +10,10 @@ use Rattle.ir_program.specs.declared.handles.Ptr.{Ptr}
 use Rattle.ir_program.specs.declared.handles.Value.{Value}
 use Rattle.ir_trees.specs.Stands.{StandsFor, defined_by}
 use Rattle.ir_trees.specs.Trees.{Defined}
+use Rattle.kit.specs.Context.{KitTree}
 use Rattle.kit.specs.Meaning.{KitOperation, KitBlock}
-use Rattle.kit_pass_rules.specs.Worlds.{PassedTree, HandlesAreApart, IsTypedIn}
+use Rattle.kit_checks.specs.KitWorld.{HasDeclaredTypes}
+use Rattle.kit_pass_rules.specs.Worlds.{HandlesAreApart}
 use Rattle.kit_pass_rules.proofs.Lists.{map_at, has_at_index, index_of_has}
 use Rattle.kit_pass_rules.proofs.Walk.{BlockOf}
 use Rattle.opt_inside.specs.Occurring.{OfItsTree, EachFound, EachBlock, IsOccurrence, IsBlockOccurrence}
@@ -28,7 +30,7 @@ pub record Told (c : Program KitOperation KitBlock) (op : Ptr Operation) : Type 
   pub blocks_sound : OfItsTree c op (λ t. EachBlock t (IsBlockOccurrence c op))
   pub blocks_one : OfItsTree c op BlocksApart
 
-module _ (c : Program KitOperation KitBlock) (op : Ptr Operation) (told : Told c op) (t : PassedTree) (s : StandsFor c op t) where
+module _ (c : Program KitOperation KitBlock) (op : Ptr Operation) (told : Told c op) (t : KitTree) (s : StandsFor c op t) where
   -- a definition of an entity has its type
   defined_type : (e : DefiningEntity) (vs : List TypedValue) → values_at c e ≡ vs → (d : Defined Value TypeHandle) → Has d (map defined_by vs) → type_at c d.name ≡ Some d.holds
   defined_type e vs same d h =
@@ -39,7 +41,7 @@ module _ (c : Program KitOperation KitBlock) (op : Ptr Operation) (told : Told c
       let ty : type_in (values_at c e) i.0 ≡ Some v.0.ty = ap (option_map (λ (x : TypedValue). x.ty)) row in
       subst (λ (z : Defined Value TypeHandle). type_at c z.name ≡ Some z.holds) v.2 (told.typed e i.0 v.0.value value ∙ ty)
 
-  pub typed_in : IsTypedIn (type_at c) t
+  pub typed_in : HasDeclaredTypes (type_at c) t
   typed_in = record {
     results = λ o h d i.
         let x = told.sound t s o h in

@@ -7,8 +7,10 @@ use Rattle.ir_names.specs.declared.interfaces.OpInterface.TheVariants as op
 use Rattle.ir_names.proofs.Entries.{attribute_at-with_attribute}
 use Rattle.ir_program.specs.declared.handles.Value.{Value}
 use Rattle.ir_trees.specs.Stands.{by_handle}
+use Rattle.kit.specs.Context.{KitTree}
 use Rattle.kit.specs.Meaning.{Entries, changed_to, changed_at, dropped_of, without_operands, without_names, range, forwards_of}
 use Rattle.kit.specs.Ranges.{range_at}
+use Rattle.kit_checks.specs.KitWorld.{kit_world}
 use Rattle.kit_checks.specs.Rules.{MayHave, IsCommon}
 use Rattle.kit_checks.specs.Words.{Every, is_terminator, symbol_name, own_type, signature, constant_value, callee_name, callee_type, callee_signature, identifier_in, type_in, integer_in, function_type, attribute_of}
 use Rattle.kit_ops.specs.declared.attributes.keys.TheConstants.{SYMBOL_NAME, FUNCTION_TYPE, CONSTANT_VALUE, CALLEE, CALLEE_TYPE}
@@ -19,7 +21,6 @@ use Rattle.kit_ops.specs.declared.kinds.KitOp.TheVariants as ops
 use Rattle.kit_ops.specs.declared.types.KitType.{KitType}
 use Rattle.kit_ops.specs.Keys as keys
 use Rattle.kit_ops.specs.Table.{has_interface}
-use Rattle.kit_pass_rules.specs.Worlds.{PassedTree, kit_world}
 use Rattle.kit_pass_rules.proofs.Thin.{thin_tree}
 use Rattle.opt_trees.specs.Dce.{Gone}
 use Rattle.opt_trees.proofs.Lists.{some_same, none_some}
@@ -35,7 +36,7 @@ dropped_lookup : (k : KitOp) (p : ℕ → Bool) (es : Entries) (key : List ℕ) 
 dropped_lookup ops.CondBr p es key q = changed_lookup es (without_operands p) key (attribute_at es keys.segment_sizes) q
 dropped_lookup k p es key q = refl
 
-module _ (leads : TypeHandle → Option KitType) (old new : Value → Option TypeHandle) (g : Gone by_handle) (u : PassedTree) where
+module _ (leads : TypeHandle → Option KitType) (old new : Value → Option TypeHandle) (g : Gone by_handle) (u : KitTree) where
   pub attribute_same : (key : List ℕ) → bytes_eq keys.segment_sizes key ≡ false → attribute_of (kit_world leads new) (thin_tree g u) key ≡ attribute_of (kit_world leads old) u key
   attribute_same key q = dropped_lookup u.head.content.kind (g.operand u.head.name) u.head.content.notes.attributes key q
 

@@ -5,6 +5,7 @@ use Rattle.ir_program.specs.declared.handles.Value.{Value}
 use Rattle.ir_trees.specs.Renames.{Maps, rename, rename_head, rename_label}
 use Rattle.ir_trees.specs.Stands.{by_handle, in_program}
 use Rattle.ir_trees.specs.Trees.{Defined, Operations, Blocks, Regions, Tree, end, operation, block, region}
+use Rattle.kit.specs.Context.{KitTree}
 use Rattle.kit.specs.Meaning.{KitOperation, KitBlock, kit, operation_of}
 use Rattle.kit_checks.specs.Sites.{Listed, operation_list, block_list, region_list}
 use Rattle.kit_checks.specs.Words.{bodies_of, joined}
@@ -12,7 +13,6 @@ use Rattle.kit_ops.specs.declared.attributes.IntegerAttr.{IntegerAttr}
 use Rattle.kit_ops.specs.declared.attributes.KitAttr.TheVariants as attrs
 use Rattle.kit_ops.specs.declared.kinds.KitOp.TheVariants as ops
 use Rattle.kit_ops.specs.Keys.{constant_value}
-use Rattle.kit_pass_rules.specs.Worlds.{PassedTree}
 use Rattle.kit_pass_rules.proofs.Lists.{has_at_index}
 use Rattle.kit_pass_rules.proofs.Thin.{KitBody}
 use Rattle.opt_trees.specs.Occurrences.{Has}
@@ -53,7 +53,7 @@ module _ (made : Value → Option IntegerAttr) (names : Maps (fresh by_handle) b
   abbrev pub q_operations : Listed KitOperation KitBlock Operations → Listed KitOperation KitBlock Operations
   q_operations x = rename names (put {N = by_handle} kit made x)
 
-  abbrev pub q_tree : PassedTree → PassedTree
+  abbrev pub q_tree : KitTree → KitTree
   q_tree u = record { head = rename_head names (old_head {N = by_handle} made u.head); regions = q_regions u.regions }
 
   abbrev pub q_body : KitBody → KitBody
@@ -63,25 +63,25 @@ module _ (made : Value → Option IntegerAttr) (names : Maps (fresh by_handle) b
   }
 
   -- the constant of a value
-  abbrev pub constant_tree : Value → IntegerAttr → PassedTree
+  abbrev pub constant_tree : Value → IntegerAttr → KitTree
   constant_tree v a = record {
     head = rename_head names (constant_head {N = by_handle} kit v a (operation_of ops.Constant ((constant_value, attrs.Integer a) ∷ [])));
     regions = end;
   }
 
-  abbrev pub one_for : Value → Option IntegerAttr → List PassedTree
+  abbrev pub one_for : Value → Option IntegerAttr → List KitTree
   one_for v None = []
   one_for v (Some a) = constant_tree v a ∷ []
 
-  abbrev pub constants : List (Defined Value TypeHandle) → List PassedTree
+  abbrev pub constants : List (Defined Value TypeHandle) → List KitTree
   constants [] = []
   constants (d ∷ ds) = one_for d.name (made d.name) ++ constants ds
 
-  abbrev pub fronts : List (Defined Value TypeHandle) → List PassedTree
+  abbrev pub fronts : List (Defined Value TypeHandle) → List KitTree
   fronts [] = []
   fronts (d ∷ ds) = fronts ds ++ one_for d.name (made d.name)
 
-  abbrev pub woven : List PassedTree → List PassedTree
+  abbrev pub woven : List KitTree → List KitTree
   woven [] = []
   woven (u ∷ us) = constants u.head.results ++ (q_tree u ∷ woven us)
 
@@ -129,33 +129,33 @@ module _ (made : Value → Option IntegerAttr) (names : Maps (fresh by_handle) b
       ap (λ l. l ++ joined (map block_list (map q_blocks rs))) (blocks_put bs)
       ∙ (ap (λ l. map q_body (block_list bs) ++ l) (bodies_step rs) ∙ sym (map-append q_body (block_list bs) (joined (map block_list rs))))
 
-  pub bodies_put : (u : PassedTree) → bodies_of (q_tree u) ≡ map q_body (bodies_of u)
+  pub bodies_put : (u : KitTree) → bodies_of (q_tree u) ≡ map q_body (bodies_of u)
   bodies_put u = ap (λ l. joined (map block_list l)) (regions_put u.regions) ∙ bodies_step (region_list u.regions)
 
   -- ---- where a member has come from
 
-  pub record Made (ds : List (Defined Value TypeHandle)) (y : PassedTree) : Type 0 where
+  pub record Made (ds : List (Defined Value TypeHandle)) (y : KitTree) : Type 0 where
     pub d : Defined Value TypeHandle
     pub has : Has d ds
     pub attribute : IntegerAttr
     pub is_made : made d.name ≡ Some attribute
     pub is : constant_tree d.name attribute ≡ y
 
-  one_made : (d : Defined Value TypeHandle) (o : Option IntegerAttr) → made d.name ≡ o → (y : PassedTree) → Has y (one_for d.name o) → Made (d ∷ []) y
+  one_made : (d : Defined Value TypeHandle) (o : Option IntegerAttr) → made d.name ≡ o → (y : KitTree) → Has y (one_for d.name o) → Made (d ∷ []) y
   one_made d None e y h = absurd h
   one_made d (Some a) e y h = ⊎_elim (λ q. record { d = d; has = inl refl; attribute = a; is_made = e; is = sym q }) (λ q. absurd q) h
 
-  more_made : (ds es : List (Defined Value TypeHandle)) (y : PassedTree) → ((d : Defined Value TypeHandle) → Has d ds → Has d es) → Made ds y → Made es y
+  more_made : (ds es : List (Defined Value TypeHandle)) (y : KitTree) → ((d : Defined Value TypeHandle) → Has d ds → Has d es) → Made ds y → Made es y
   more_made ds es y sub m = record { d = m.d; has = sub m.d m.has; attribute = m.attribute; is_made = m.is_made; is = m.is }
 
-  pub constants_made : (ds : List (Defined Value TypeHandle)) (y : PassedTree) → Has y (constants ds) → Made ds y
+  pub constants_made : (ds : List (Defined Value TypeHandle)) (y : KitTree) → Has y (constants ds) → Made ds y
   constants_made [] y h = absurd h
   constants_made (d ∷ ds) y h = ⊎_elim
       (λ q. more_made (d ∷ []) (d ∷ ds) y (λ e i. ⊎_elim (λ z. inl z) (λ z. absurd z) i) (one_made d (made d.name) refl y q))
       (λ q. more_made ds (d ∷ ds) y (λ e i. inr i) (constants_made ds y q))
       (has-append y (one_for d.name (made d.name)) (constants ds) h)
 
-  pub fronts_made : (ds : List (Defined Value TypeHandle)) (y : PassedTree) → Has y (fronts ds) → Made ds y
+  pub fronts_made : (ds : List (Defined Value TypeHandle)) (y : KitTree) → Has y (fronts ds) → Made ds y
   fronts_made [] y h = absurd h
   fronts_made (d ∷ ds) y h = ⊎_elim
       (λ q. more_made ds (d ∷ ds) y (λ e i. inr i) (fronts_made ds y q))
@@ -181,46 +181,46 @@ module _ (made : Value → Option IntegerAttr) (names : Maps (fresh by_handle) b
       (λ q. has-left (constant_tree d.name a) (fronts ds) (one_for x.name (made x.name)) (fronts_has ds d a q e)) h
 
   -- what a member of the list is woven to
-  pub woven_has : (us : List PassedTree) (u y : PassedTree) → Has u us → Has y (constants u.head.results ++ (q_tree u ∷ [])) → Has y (woven us)
+  pub woven_has : (us : List KitTree) (u y : KitTree) → Has u us → Has y (constants u.head.results ++ (q_tree u ∷ [])) → Has y (woven us)
   woven_has [] u y h i = absurd h
   woven_has (x ∷ us) u y h i = ⊎_elim
-      (λ e. own x (subst (λ (z : PassedTree). Has y (constants z.head.results ++ (q_tree z ∷ []))) e i))
+      (λ e. own x (subst (λ (z : KitTree). Has y (constants z.head.results ++ (q_tree z ∷ []))) e i))
       (λ r. has-right y (constants x.head.results) (q_tree x ∷ woven us) (inr (woven_has us u y r i))) h
     where
-      own : (x : PassedTree) → Has y (constants x.head.results ++ (q_tree x ∷ [])) → Has y (constants x.head.results ++ (q_tree x ∷ woven us))
+      own : (x : KitTree) → Has y (constants x.head.results ++ (q_tree x ∷ [])) → Has y (constants x.head.results ++ (q_tree x ∷ woven us))
       own x j = ⊎_elim
           (λ a. has-left y (constants x.head.results) (q_tree x ∷ woven us) a)
           (λ b. has-right y (constants x.head.results) (q_tree x ∷ woven us) (⊎_elim (λ e. inl e) (λ z. absurd z) b))
           (has-append y (constants x.head.results) (q_tree x ∷ []) j)
 
   -- a member that was there, and where it has come to be
-  pub record Member (us : List PassedTree) (k : ℕ) (y : PassedTree) : Type 0 where
+  pub record Member (us : List KitTree) (k : ℕ) (y : KitTree) : Type 0 where
     pub index : ℕ
-    pub it : PassedTree
+    pub it : KitTree
     pub here : slice_get us index ≡ Some it
     pub is : q_tree it ≡ y
-    pub before : (z : PassedTree) → Has z (woven (take index us)) → Has z (take k (woven us))
-    pub back : (z : PassedTree) → Has z (take k (woven us)) → Has z (woven (take index us)) ⊎ Has z (constants it.head.results)
+    pub before : (z : KitTree) → Has z (woven (take index us)) → Has z (take k (woven us))
+    pub back : (z : KitTree) → Has z (take k (woven us)) → Has z (woven (take index us)) ⊎ Has z (constants it.head.results)
     pub last : index + 1 ≡ length us → k + 1 ≡ length (woven us)
     pub end : k + 1 ≡ length (woven us) → index + 1 ≡ length us
 
   -- a constant of a result
-  pub record OfResult (us : List PassedTree) (k : ℕ) (y : PassedTree) : Type 0 where
+  pub record OfResult (us : List KitTree) (k : ℕ) (y : KitTree) : Type 0 where
     pub index : ℕ
-    pub it : PassedTree
+    pub it : KitTree
     pub here : slice_get us index ≡ Some it
     pub made_for : Made it.head.results y
     pub more : k + 1 ≡ length (woven us) → ⊥
 
-  none_woven : (us : List PassedTree) → length us ≡ 0 → length (woven us) ≡ 0
+  none_woven : (us : List KitTree) → length us ≡ 0 → length (woven us) ≡ 0
   none_woven [] e = refl
   none_woven (u ∷ us) e = absurd (omega (arith, e))
 
-  pub woven_none : (us : List PassedTree) → length (woven us) ≡ 0 → length us ≡ 0
+  pub woven_none : (us : List KitTree) → length (woven us) ≡ 0 → length us ≡ 0
   woven_none [] e = refl
   woven_none (u ∷ us) e = let c : length (constants u.head.results ++ (q_tree u ∷ woven us)) ≡ length (constants u.head.results) + length (q_tree u ∷ woven us) = append_count (constants u.head.results) (q_tree u ∷ woven us) in absurd (omega (arith, e))
 
-  pub source : (us : List PassedTree) (k : ℕ) (y : PassedTree) → slice_get (woven us) k ≡ Some y → Member us k y ⊎ OfResult us k y
+  pub source : (us : List KitTree) (k : ℕ) (y : KitTree) → slice_get (woven us) k ≡ Some y → Member us k y ⊎ OfResult us k y
   source [] k y e = absurd (none_some y e)
   source (u ∷ us) k y e = ⊎_elim
       (λ l. let less : k < length cs = l.0 in inr (record {
@@ -233,7 +233,7 @@ module _ (made : Value → Option IntegerAttr) (names : Maps (fresh by_handle) b
       (λ r. behind r.0 r.1 r.2 (λ m. source us m y))
       (append_at cs (q_tree u ∷ woven us) k y e)
     where
-      cs : List PassedTree
+      cs : List KitTree
       cs = constants u.head.results
 
       count : length (constants u.head.results ++ (q_tree u ∷ woven us)) ≡ length cs + length (q_tree u ∷ woven us)

@@ -6,8 +6,10 @@ use Rattle.ir_program.specs.declared.handles.Value.{Value}
 use Rattle.ir_trees.specs.Renames.{Maps}
 use Rattle.ir_trees.specs.Stands.{by_handle}
 use Rattle.ir_trees.specs.Trees.{Defined, Blocks}
+use Rattle.kit.specs.Context.{KitTree}
 use Rattle.kit.specs.Meaning.{KitOperation, KitBlock}
 use Rattle.kit_checks.specs.Faults.{Keeps}
+use Rattle.kit_checks.specs.KitWorld.{kit_world}
 use Rattle.kit_checks.specs.Rules as rules
 use Rattle.kit_checks.specs.Sites.{Listed, operation_list, block_list, region_list, site_from, site_at}
 use Rattle.kit_checks.specs.Words.{IsValueType, bodies_of, is_symbol}
@@ -20,7 +22,6 @@ use Rattle.kit_ops.specs.declared.kinds.KitOp.{KitOp}
 use Rattle.kit_ops.specs.declared.kinds.KitOp.TheVariants as ops
 use Rattle.kit_ops.specs.declared.types.KitType.{KitType}
 use Rattle.kit_pass_rules.specs.Laws.{IsGood}
-use Rattle.kit_pass_rules.specs.Worlds.{PassedTree, kit_world}
 use Rattle.kit_pass_rules.proofs.DceCame.{KitAround, KitSite}
 use Rattle.kit_pass_rules.proofs.Lists.{map_get, map_at, has_at_index, index_of_has}
 use Rattle.kit_pass_rules.proofs.PutIn.{append_at, append_count, take_append, q_regions, q_blocks, q_tree, q_body, constant_tree, constants, fronts, woven, list_put, blocks_put, regions_put, Made, fronts_made, Member, OfResult, source, woven_none}
@@ -31,14 +32,14 @@ use Rattle.opt_trees.specs.Sccp.{fresh}
 use Rattle.opt_trees.proofs.Lists.{some_same, none_some}
 use Rattle.opt_trees.proofs.NoneDead.{has-append, has-left, has-right}
 
-no_region : (u : PassedTree) (r s n : ℕ) (blocks : Listed KitOperation KitBlock Blocks) → rules.Counts u r s 0 → slice_get (region_list u.regions) n ≡ Some blocks → ⊥
+no_region : (u : KitTree) (r s n : ℕ) (blocks : Listed KitOperation KitBlock Blocks) → rules.Counts u r s 0 → slice_get (region_list u.regions) n ≡ Some blocks → ⊥
 no_region u r s n blocks c e = let w : n < length (region_list u.regions) = slice_get_within (region_list u.regions) n blocks e in let z = c.regions in omega (arith, w, z)
 
 no_result : (ds : List (Defined Value TypeHandle)) (d : Defined Value TypeHandle) → length ds ≡ 0 → Has d ds → ⊥
 no_result [] d e h = h
 no_result (x ∷ ds) d e h = omega (arith, e)
 
-pub body_in : (u : PassedTree) (r b : ℕ) (blocks : Listed KitOperation KitBlock Blocks) (body : KitBody) → slice_get (region_list u.regions) r ≡ Some blocks → slice_get (block_list blocks) b ≡ Some body → Has body (bodies_of u)
+pub body_in : (u : KitTree) (r b : ℕ) (blocks : Listed KitOperation KitBlock Blocks) (body : KitBody) → slice_get (region_list u.regions) r ≡ Some blocks → slice_get (block_list blocks) b ≡ Some body → Has body (bodies_of u)
 body_in u r b blocks body hr hb = in_joined block_list (region_list u.regions) blocks body (has_at_index (region_list u.regions) r blocks hr) (has_at_index (block_list blocks) b body hb)
 
 one_block : (b body : KitBody) (lists : List (List KitBody)) (list : List KitBody) (r n : ℕ) → lists ≡ (b ∷ []) ∷ [] → slice_get lists r ≡ Some list → slice_get list n ≡ Some body → body ≡ b
@@ -48,16 +49,16 @@ one_block b body lists list zero (suc n) e h i =
     let q : b ∷ [] ≡ list = some_same (b ∷ []) list (sym (ap (λ l. slice_get l 0) e) ∙ h) in absurd (none_some body (ap (λ l. slice_get l (suc n)) q ∙ i))
 one_block b body lists list (suc r) n e h i = absurd (none_some list (sym (ap (λ l. slice_get l (suc r)) e) ∙ h))
 
-module _ (leads : TypeHandle → Option KitType) (old : Value → Option TypeHandle) (t : PassedTree) (good : IsGood leads old t)
+module _ (leads : TypeHandle → Option KitType) (old : Value → Option TypeHandle) (t : KitTree) (good : IsGood leads old t)
     (made : Value → Option IntegerAttr) (names : Maps (fresh by_handle) by_handle) where
-  pub keeps_below : (s : KitSite) (outer : List PassedTree) (up : Standing t s outer) (r b k : ℕ) (blocks : Listed KitOperation KitBlock Blocks) (body : KitBody) (u : PassedTree) →
+  pub keeps_below : (s : KitSite) (outer : List KitTree) (up : Standing t s outer) (r b k : ℕ) (blocks : Listed KitOperation KitBlock Blocks) (body : KitBody) (u : KitTree) →
       slice_get (region_list s.op.regions) r ≡ Some blocks → slice_get (block_list blocks) b ≡ Some body → slice_get (operation_list body.operations) k ≡ Some u →
       (q : Rule) → Keeps (kit_world leads old) q (step_to s outer blocks b body k u)
   keeps_below s outer up r b k blocks body u hr hb hk q =
       let c = child_of t s outer up r b k blocks body u hr hb hk in
       good.obeys q c.place (step_to s outer blocks b body k u) c.at_place
 
-  owner_kind : (u : PassedTree) (k : KitOp) → u.head.content.kind ≡ k → rules.FitsKind (kit_world leads old) u k → (r : ℕ) (blocks : Listed KitOperation KitBlock Blocks) → slice_get (region_list u.regions) r ≡ Some blocks →
+  owner_kind : (u : KitTree) (k : KitOp) → u.head.content.kind ≡ k → rules.FitsKind (kit_world leads old) u k → (r : ℕ) (blocks : Listed KitOperation KitBlock Blocks) → slice_get (region_list u.regions) r ≡ Some blocks →
       (u.head.content.kind ≡ ops.Module) ⊎ (u.head.content.kind ≡ ops.Func)
   owner_kind u ops.Module e h r bs q = inl e
   owner_kind u ops.Func e h r bs q = inr e
@@ -71,7 +72,7 @@ module _ (leads : TypeHandle → Option KitType) (old : Value → Option TypeHan
   owner_kind u ops.Emit e h r bs q = absurd (no_region u 0 0 r bs h.0 q)
   owner_kind u ops.Return e h r bs q = absurd (no_region u 0 0 r bs h q)
 
-  no_results : (u : PassedTree) (k : KitOp) → is_symbol k ≡ true → rules.FitsKind (kit_world leads old) u k → length u.head.results ≡ 0
+  no_results : (u : KitTree) (k : KitOp) → is_symbol k ≡ true → rules.FitsKind (kit_world leads old) u k → length u.head.results ≡ 0
   no_results u ops.Module e h = h.0.results
   no_results u ops.Func e h = h.0.results
   no_results u k e h = absurd (cc e)
@@ -106,7 +107,7 @@ module _ (leads : TypeHandle → Option KitType) (old : Value → Option TypeHan
   }
 
   -- the operation was there, and its index is j now
-  pub record Was (u : PassedTree) (a : KitAround) (j : ℕ) : Type 0 where
+  pub record Was (u : KitTree) (a : KitAround) (j : ℕ) : Type 0 where
     pub up_around : Option KitAround
     pub new_around : Option KitAround
     pub up : Standing t (record { op = a.owner; around = up_around }) a.outer
@@ -116,20 +117,20 @@ module _ (leads : TypeHandle → Option KitType) (old : Value → Option TypeHan
     pub new_region_here : slice_get (region_list (q_regions made names a.owner.regions)) region ≡ Some (q_blocks made names a.blocks)
     pub block_here : slice_get (block_list a.blocks) a.number ≡ Some a.body
     pub here : slice_get (operation_list a.body.operations) a.index ≡ Some u
-    pub before : (z : PassedTree) → Has z (fronts made names a.body.label.arguments ++ woven made names (take a.index (operation_list a.body.operations))) →
+    pub before : (z : KitTree) → Has z (fronts made names a.body.label.arguments ++ woven made names (take a.index (operation_list a.body.operations))) →
         Has z (take j (operation_list (q_body made names a.body).operations))
-    pub back : (z : PassedTree) → Has z (take j (operation_list (q_body made names a.body).operations)) →
+    pub back : (z : KitTree) → Has z (take j (operation_list (q_body made names a.body).operations)) →
         Has z (fronts made names a.body.label.arguments) ⊎ (Has z (woven made names (take a.index (operation_list a.body.operations))) ⊎ Has z (constants made names u.head.results))
     pub last : a.index + 1 ≡ length (operation_list a.body.operations) → j + 1 ≡ length (operation_list (q_body made names a.body).operations)
     pub end : j + 1 ≡ length (operation_list (q_body made names a.body).operations) → a.index + 1 ≡ length (operation_list a.body.operations)
 
   pub data Comes : KitSite → Type 0 where
     at_root : Comes (record { op = q_tree made names t; around = None })
-    below : (u : PassedTree) (a : KitAround) (j : ℕ) → Was u a j → Comes (record { op = q_tree made names u; around = Some (q_around a j) })
+    below : (u : KitTree) (a : KitAround) (j : ℕ) → Was u a j → Comes (record { op = q_tree made names u; around = Some (q_around a j) })
     constant : (s : KitSite) → Put s → Comes s
 
   -- where an operation without regions is there is nothing further
-  ends_there : (z : KitSite) (outer : List PassedTree) → region_list z.op.regions ≡ [] → (p : List ℕ) (s : KitSite) → site_from z outer p ≡ Some s → z ≡ s
+  ends_there : (z : KitSite) (outer : List KitTree) → region_list z.op.regions ≡ [] → (p : List ℕ) (s : KitSite) → site_from z outer p ≡ Some s → z ≡ s
   ends_there z outer none [] s e = some_same z s e
   ends_there z outer none (r ∷ []) s e = absurd (none_some s e)
   ends_there z outer none (r ∷ b ∷ []) s e = absurd (none_some s e)
@@ -137,7 +138,7 @@ module _ (leads : TypeHandle → Option KitType) (old : Value → Option TypeHan
       let st = stepped z outer r b k p s e in
       absurd (none_some st.blocks (sym (ap (λ l. slice_get l r) none) ∙ st.region_here))
 
-  module _ (s : KitSite) (outer : List PassedTree) (up : Standing t s outer) (here : (q : Rule) → Keeps (kit_world leads old) q s)
+  module _ (s : KitSite) (outer : List KitTree) (up : Standing t s outer) (here : (q : Rule) → Keeps (kit_world leads old) q s)
       (r b : ℕ) (blocks : Listed KitOperation KitBlock Blocks) (body : KitBody) (hr : slice_get (region_list s.op.regions) r ≡ Some blocks) (hb : slice_get (block_list blocks) b ≡ Some body) where
     kind_here : (s.op.head.content.kind ≡ ops.Module) ⊎ (s.op.head.content.kind ≡ ops.Func)
     kind_here = owner_kind s.op s.op.head.content.kind refl (here rule.FitsFormat) r blocks hr
@@ -163,7 +164,7 @@ module _ (leads : TypeHandle → Option KitType) (old : Value → Option TypeHan
           value = v.arguments i.0 body i.1 k.0 d.holds (map_get (λ (d : Defined Value TypeHandle). d.holds) body.label.arguments k.0 d k.1);
         }
 
-    result_function : (i : ℕ) (x : PassedTree) → slice_get (operation_list body.operations) i ≡ Some x → (d : Defined Value TypeHandle) → Has d x.head.results → s.op.head.content.kind ≡ ops.Func
+    result_function : (i : ℕ) (x : KitTree) → slice_get (operation_list body.operations) i ≡ Some x → (d : Defined Value TypeHandle) → Has d x.head.results → s.op.head.content.kind ≡ ops.Func
     result_function i x hi d h = ⊎_elim
         (λ m.
         let a : KitAround = record { owner = s.op; outer = outer; blocks = blocks; number = b; body = body; index = i } in
@@ -171,7 +172,7 @@ module _ (leads : TypeHandle → Option KitType) (old : Value → Option TypeHan
         absurd (no_result x.head.results d (no_results x x.head.content.kind (holds.kinds a (refl, m)) (keeps_below s outer up r b i blocks body x hr hb hi rule.FitsFormat)) h))
         (λ f. f) kind_here
 
-    result_typed : (i : ℕ) (x : PassedTree) → slice_get (operation_list body.operations) i ≡ Some x → (d : Defined Value TypeHandle) → Has d x.head.results → Typed d.name
+    result_typed : (i : ℕ) (x : KitTree) → slice_get (operation_list body.operations) i ≡ Some x → (d : Defined Value TypeHandle) → Has d x.head.results → Typed d.name
     result_typed i x hi d h =
         let c = child_of t s outer up r b i blocks body x hr hb hi in
         let v : rules.ValuesAreIntegers (kit_world leads old) (step_to s outer blocks b body i x) = keeps_below s outer up r b i blocks body x hr hb hi rule.ValuesAreIntegers in
@@ -188,12 +189,12 @@ module _ (leads : TypeHandle → Option KitType) (old : Value → Option TypeHan
         let i = index_of_has (bodies_of s.op) body (body_in s.op r b blocks body hr hb) in
         ends.none_empty f i.0 body i.1 (nothing (operation_list body.operations) (woven_none made names (operation_list body.operations) e))
       where
-        nothing : (us : List PassedTree) → length us ≡ 0 → us ≡ []
+        nothing : (us : List KitTree) → length us ≡ 0 → us ≡ []
         nothing [] q = refl
         nothing (u ∷ us) q = absurd (omega (arith, q))
 
     -- a constant at an index of the block, in whatever is around it now
-    module _ (br : Option KitAround) (k : ℕ) (y : PassedTree) where
+    module _ (br : Option KitAround) (k : ℕ) (y : KitTree) where
       abbrev around_now : KitAround
       around_now = record { owner = q_tree made names s.op; outer = map (q_tree made names) outer; blocks = q_blocks made names blocks; number = b; body = q_body made names body; index = k }
 
@@ -234,15 +235,15 @@ module _ (leads : TypeHandle → Option KitType) (old : Value → Option TypeHan
           }
 
   -- a member of the list of a block, where it has come to be
-  was_made : (s : KitSite) (outer : List PassedTree) (up : Standing t s outer) (r b : ℕ) (blocks : Listed KitOperation KitBlock Blocks) (body : KitBody) →
+  was_made : (s : KitSite) (outer : List KitTree) (up : Standing t s outer) (r b : ℕ) (blocks : Listed KitOperation KitBlock Blocks) (body : KitBody) →
       slice_get (region_list s.op.regions) r ≡ Some blocks → slice_get (block_list blocks) b ≡ Some body → (br : Option KitAround) →
       Standing (q_tree made names t) (record { op = q_tree made names s.op; around = br }) (map (q_tree made names) outer) →
       slice_get (region_list (q_regions made names s.op.regions)) r ≡ Some (q_blocks made names blocks) →
-      (k m : ℕ) → k ≡ length (fronts made names body.label.arguments) + m → (y : PassedTree) (o : Member made names (operation_list body.operations) m y) →
+      (k m : ℕ) → k ≡ length (fronts made names body.label.arguments) + m → (y : KitTree) (o : Member made names (operation_list body.operations) m y) →
       Was o.it (record { owner = s.op; outer = outer; blocks = blocks; number = b; body = body; index = o.index }) k
   was_made s outer up r b blocks body hr hb br new_up new_region k m at y o =
-      let front : List PassedTree = fronts made names body.label.arguments in
-      let us : List PassedTree = operation_list body.operations in
+      let front : List KitTree = fronts made names body.label.arguments in
+      let us : List KitTree = operation_list body.operations in
       let taken : take k (operation_list (q_body made names body).operations) ≡ front ++ take m (woven made names us) =
       ap (take k) (list_put made names body) ∙ take_append front (woven made names us) m k at in
       let counted : length (operation_list (q_body made names body).operations) ≡ length front + length (woven made names us) =
@@ -267,10 +268,10 @@ module _ (leads : TypeHandle → Option KitType) (old : Value → Option TypeHan
       }
 
   -- one step down in the tree with constants
-  record Step (u : PassedTree) (br : Option KitAround) (outer : List PassedTree) (r b k : ℕ) (p : List ℕ) (s : KitSite) : Type 0 where
+  record Step (u : KitTree) (br : Option KitAround) (outer : List KitTree) (r b k : ℕ) (p : List ℕ) (s : KitSite) : Type 0 where
     pub blocks : Listed KitOperation KitBlock Blocks
     pub body : KitBody
-    pub y : PassedTree
+    pub y : KitTree
     pub region_here : slice_get (region_list u.regions) r ≡ Some blocks
     pub block_here : slice_get (block_list blocks) b ≡ Some body
     pub new_region : slice_get (region_list (q_regions made names u.regions)) r ≡ Some (q_blocks made names blocks)
@@ -279,11 +280,11 @@ module _ (leads : TypeHandle → Option KitType) (old : Value → Option TypeHan
     pub goes : site_from (step_to (record { op = q_tree made names u; around = br }) (map (q_tree made names) outer) (q_blocks made names blocks) b (q_body made names body) k y)
         (q_tree made names u ∷ map (q_tree made names) outer) p ≡ Some s
 
-  step_down : (u : PassedTree) (br : Option KitAround) (outer : List PassedTree) (r b k : ℕ) (p : List ℕ) (s : KitSite) →
+  step_down : (u : KitTree) (br : Option KitAround) (outer : List KitTree) (r b k : ℕ) (p : List ℕ) (s : KitSite) →
       site_from (record { op = q_tree made names u; around = br }) (map (q_tree made names) outer) (r ∷ b ∷ k ∷ p) ≡ Some s → Step u br outer r b k p s
   step_down u br outer r b k p s e =
       let there : KitSite = record { op = q_tree made names u; around = br } in
-      let outers : List PassedTree = map (q_tree made names) outer in
+      let outers : List KitTree = map (q_tree made names) outer in
       let st = stepped there outers r b k p s e in
       let x = map_at (q_blocks made names) (region_list u.regions) r st.blocks (sym (ap (λ l. slice_get l r) (regions_put made names u.regions)) ∙ st.region_here) in
       let y = map_at (q_body made names) (block_list x.0) b st.body (sym (ap (λ l. slice_get l b) (blocks_put made names x.0)) ∙ (ap (λ (z : Listed KitOperation KitBlock Blocks). slice_get (block_list z) b) x.2 ∙ st.block_here)) in
@@ -300,8 +301,8 @@ module _ (leads : TypeHandle → Option KitType) (old : Value → Option TypeHan
       }
 
   -- further down it is the same
-  record Next (u : PassedTree) (outer : List PassedTree) (p : List ℕ) (s : KitSite) : Type 0 where
-    pub it : PassedTree
+  record Next (u : KitTree) (outer : List KitTree) (p : List ℕ) (s : KitSite) : Type 0 where
+    pub it : KitTree
     pub a : KitAround
     pub k : ℕ
     pub up : Standing t (record { op = it; around = Some a }) (u ∷ outer)
@@ -310,13 +311,13 @@ module _ (leads : TypeHandle → Option KitType) (old : Value → Option TypeHan
     pub was : Was it a k
     pub goes : site_from (record { op = q_tree made names it; around = Some (q_around a k) }) (q_tree made names u ∷ map (q_tree made names) outer) p ≡ Some s
 
-  module _ (u : PassedTree) (ar br : Option KitAround) (outer : List PassedTree) (up : Standing t (record { op = u; around = ar }) outer)
+  module _ (u : KitTree) (ar br : Option KitAround) (outer : List KitTree) (up : Standing t (record { op = u; around = ar }) outer)
       (new_up : Standing (q_tree made names t) (record { op = q_tree made names u; around = br }) (map (q_tree made names) outer))
       (here : (q : Rule) → Keeps (kit_world leads old) q (record { op = u; around = ar })) (r b k : ℕ) (p : List ℕ) (s : KitSite) (st : Step u br outer r b k p s) where
     put_there : Put (step_to (record { op = q_tree made names u; around = br }) (map (q_tree made names) outer) (q_blocks made names st.blocks) b (q_body made names st.body) k st.y) → Comes s
     put_there c =
         let site : KitSite = step_to (record { op = q_tree made names u; around = br }) (map (q_tree made names) outer) (q_blocks made names st.blocks) b (q_body made names st.body) k st.y in
-        subst Comes (ends_there site (q_tree made names u ∷ map (q_tree made names) outer) (sym (ap (λ (z : PassedTree). region_list z.regions) c.is)) p s st.goes) (constant site c)
+        subst Comes (ends_there site (q_tree made names u ∷ map (q_tree made names) outer) (sym (ap (λ (z : KitTree). region_list z.regions) c.is)) p s st.goes) (constant site c)
 
     front_case : k < length (fronts made names st.body.label.arguments) → slice_get (fronts made names st.body.label.arguments) k ≡ Some st.y → Comes s
     front_case less e = put_there (front_put (record { op = u; around = ar }) outer up here r b st.blocks st.body st.region_here st.block_here br k st.y less
@@ -352,7 +353,7 @@ module _ (leads : TypeHandle → Option KitType) (old : Value → Option TypeHan
         (append_at (fronts made names st.body.label.arguments) (woven made names (operation_list st.body.operations)) k st.y
         (sym (ap (λ l. slice_get l k) (list_put made names st.body)) ∙ st.new_op))
 
-  walk : (u : PassedTree) (ar br : Option KitAround) (outer : List PassedTree) (up : Standing t (record { op = u; around = ar }) outer) →
+  walk : (u : KitTree) (ar br : Option KitAround) (outer : List KitTree) (up : Standing t (record { op = u; around = ar }) outer) →
       Standing (q_tree made names t) (record { op = q_tree made names u; around = br }) (map (q_tree made names) outer) →
       ((q : Rule) → Keeps (kit_world leads old) q (record { op = u; around = ar })) →
       Comes (record { op = q_tree made names u; around = br }) → (p : List ℕ) (s : KitSite) →

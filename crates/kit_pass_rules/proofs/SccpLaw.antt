@@ -10,10 +10,12 @@ use Rattle.ir_program.specs.declared.handles.Value.{Value}
 use Rattle.ir_trees.specs.Renames.{Maps, rename_root}
 use Rattle.ir_trees.specs.Stands.{by_handle, ProgramHead}
 use Rattle.ir_trees.specs.Trees.{Defined}
+use Rattle.kit.specs.Context.{KitTree}
 use Rattle.kit.specs.Folded.{same_number}
 use Rattle.kit.specs.Meaning.{KitOperation, KitBlock, kit}
 use Rattle.kit.specs.Same.{same_integer}
 use Rattle.kit_checks.specs.Faults.{Keeps}
+use Rattle.kit_checks.specs.KitWorld.{HasDeclaredTypes, kit_world}
 use Rattle.kit_checks.specs.Rules.{ValuesAreIntegers}
 use Rattle.kit_checks.specs.Words.{IsValueType, bodies_of, integer_type}
 use Rattle.kit_checks.specs.declared.rule.Rule.{Rule}
@@ -22,7 +24,7 @@ use Rattle.kit_ops.specs.contracts.attributes.IntegerAttrPartialEq.TheImpl as of
 use Rattle.kit_ops.specs.declared.attributes.IntegerAttr.{IntegerAttr}
 use Rattle.kit_ops.specs.declared.types.KitType.{KitType}
 use Rattle.kit_pass_rules.specs.Laws.{IsGood, SccpKeepsRules}
-use Rattle.kit_pass_rules.specs.Worlds.{PassedTree, kit_world, IsTypedIn, ObeysIn}
+use Rattle.kit_pass_rules.specs.Worlds.{ObeysIn}
 use Rattle.kit_pass_rules.proofs.DceCame.{KitSite}
 use Rattle.kit_pass_rules.proofs.FactsBranches.{branch_lower}
 use Rattle.kit_pass_rules.proofs.FactsClosed.{lower, lowered, entries_lowered, rule_here}
@@ -75,7 +77,7 @@ module _ (leads : TypeHandle → Option KitType) where
   tests_right : (ty : TypeHandle) (a : IntegerAttr) → test (Some ty) a ≡ true → Right leads ty a
   tests_right ty a e = let x : Tests leads test = tests in x.right ty a e
 
-  module _ (old : Value → Option TypeHandle) (t : PassedTree) (good : IsGood leads old t) (k : Facts by_handle IntegerAttr) (best : IsMostPrecise kit t k) where
+  module _ (old : Value → Option TypeHandle) (t : KitTree) (good : IsGood leads old t) (k : Facts by_handle IntegerAttr) (best : IsMostPrecise kit t k) where
     abbrev lowest : Facts by_handle IntegerAttr
     lowest = lowered leads old t good test tests k
 
@@ -153,9 +155,9 @@ module _ (leads : TypeHandle → Option KitType) where
     pub fits : (v : Value) (a : IntegerAttr) → Gets kit t k v a → Fits leads old v a
     fits v a g = fits_of v a g.known (⊎_elim (result_type v) (argument_type v) g.place)
 
-module _ (leads : TypeHandle → Option KitType) (old new : Value → Option TypeHandle) (t : PassedTree) (good : IsGood leads old t)
+module _ (leads : TypeHandle → Option KitType) (old new : Value → Option TypeHandle) (t : KitTree) (good : IsGood leads old t)
     (made : Value → Option IntegerAttr) (names : Maps (fresh by_handle) by_handle) (fit : (v : Value) (a : IntegerAttr) → made v ≡ Some a → Fits leads old v a)
-    (typed : IsTypedIn new (q_tree made names t)) where
+    (typed : HasDeclaredTypes new (q_tree made names t)) where
   all_kept : (r : Rule) (s : KitSite) → Comes leads old t good made names s → Keeps (kit_world leads new) r s
   all_kept rule.RootIsModule s c = rule_root leads old new t good made names fit typed s c
   all_kept rule.ModuleHolds s c = rule_module leads old new t good made names fit typed s c
@@ -180,4 +182,4 @@ sccp_law = λ leads old new t after good named typed.
     let x = named.is_sccp in
     let same : q_tree x.made named.names t ≡ after = sym (named.is ∙ ap (rename_root named.names) x.is) in
     subst (ObeysIn (kit_world leads new)) same
-    (with_constants_keeps leads old new t good x.made named.names (λ v a e. fits leads old t good x.facts x.best v a (x.is_made.gets v a e)) (subst (IsTypedIn new) (sym same) typed))
+    (with_constants_keeps leads old new t good x.made named.names (λ v a e. fits leads old t good x.facts x.best v a (x.is_made.gets v a e)) (subst (HasDeclaredTypes new) (sym same) typed))

@@ -8,8 +8,10 @@ use Rattle.ir_trees.specs.Renames.{Maps, rename_defined}
 use Rattle.ir_trees.specs.Searched.{Lists}
 use Rattle.ir_trees.specs.Stands.{by_handle}
 use Rattle.ir_trees.specs.Trees.{Defined, Blocks}
+use Rattle.kit.specs.Context.{KitTree}
 use Rattle.kit.specs.Meaning.{KitOperation, KitBlock}
 use Rattle.kit_checks.specs.Faults.{Keeps}
+use Rattle.kit_checks.specs.KitWorld.{HasDeclaredTypes, kit_world}
 use Rattle.kit_checks.specs.Rules as rules
 use Rattle.kit_checks.specs.Sites.{Listed, operation_list, block_list, region_list}
 use Rattle.kit_checks.specs.Words.{Every, AreAllEqual, IsBit, types_of, bodies_of, members_of, kind_of, is_module, is_terminator, symbol_name, signature, first_module, along_edge, segment_sizes, sizes_or_none}
@@ -23,7 +25,6 @@ use Rattle.kit_ops.specs.declared.kinds.KitOp.TheVariants as ops
 use Rattle.kit_ops.specs.declared.types.KitType.{KitType}
 use Rattle.kit_ops.specs.Keys as keys
 use Rattle.kit_pass_rules.specs.Laws.{IsGood}
-use Rattle.kit_pass_rules.specs.Worlds.{PassedTree, kit_world, IsTypedIn}
 use Rattle.kit_pass_rules.proofs.DceCame.{KitAround, KitSite}
 use Rattle.kit_pass_rules.proofs.Lists.{map_get, map_at, get_take, from_take, has_at_index, index_of_has}
 use Rattle.kit_pass_rules.proofs.PutIn.{append_count, q_blocks, q_tree, q_body, constant_tree, constants, fronts, woven, list_put, blocks_put, regions_put, bodies_put, Made, fronts_made, constants_made, woven_none, woven_has, Member, OfResult, source}
@@ -36,27 +37,27 @@ use Rattle.opt_trees.specs.Sccp.{Old, fresh, used_as}
 use Rattle.opt_trees.proofs.Lists.{some_same, none_some, length-map}
 use Rattle.opt_trees.proofs.NoneDead.{has-right}
 
-module _ (leads : TypeHandle → Option KitType) (old new : Value → Option TypeHandle) (t : PassedTree) (good : IsGood leads old t)
+module _ (leads : TypeHandle → Option KitType) (old new : Value → Option TypeHandle) (t : KitTree) (good : IsGood leads old t)
     (made : Value → Option IntegerAttr) (names : Maps (fresh by_handle) by_handle) (fits : (v : Value) (a : IntegerAttr) → made v ≡ Some a → Fits leads old v a)
-    (typed : IsTypedIn new (q_tree made names t)) where
+    (typed : HasDeclaredTypes new (q_tree made names t)) where
   abbrev Site : KitSite → Type 0
   Site s = Comes leads old t good made names s
 
-  abbrev Placed : PassedTree → KitAround → ℕ → Type 0
+  abbrev Placed : KitTree → KitAround → ℕ → Type 0
   Placed u a j = Was leads old t good made names u a j
 
   abbrev later : KitAround → ℕ → KitAround
   later a j = q_around leads old t good made names a j
 
-  abbrev with_constants : PassedTree → PassedTree
+  abbrev with_constants : KitTree → KitTree
   with_constants u = q_tree made names u
 
-  kept_at : (u : PassedTree) (a : KitAround) (j : ℕ) → Placed u a j → (r : Rule) → Keeps (kit_world leads old) r (record { op = u; around = Some a })
+  kept_at : (u : KitTree) (a : KitAround) (j : ℕ) → Placed u a j → (r : Rule) → Keeps (kit_world leads old) r (record { op = u; around = Some a })
   kept_at u a j o = keeps leads old new t good made names fits typed u a j o
 
   -- ---- modules
 
-  module_body : (u : PassedTree) → rules.HasModuleBody u → rules.HasModuleBody (with_constants u)
+  module_body : (u : KitTree) → rules.HasModuleBody u → rules.HasModuleBody (with_constants u)
   module_body u h = record {
     body = q_body made names h.body;
     one = ap (map block_list) (regions_put made names u.regions) ∙ (lists (region_list u.regions) ∙ ap (map (map (q_body made names))) h.one);
@@ -67,13 +68,13 @@ module _ (leads : TypeHandle → Option KitType) (old new : Value → Option Typ
       lists [] = refl
       lists (bs ∷ rs) = λ i. blocks_put made names bs i ∷ lists rs i
 
-  no_name : (ds : List (Defined Value TypeHandle)) (y : PassedTree) (name : List ℕ) → Made made names ds y → symbol_name (kit_world leads new) y ≡ Some name → ⊥
+  no_name : (ds : List (Defined Value TypeHandle)) (y : KitTree) (name : List ℕ) → Made made names ds y → symbol_name (kit_world leads new) y ≡ Some name → ⊥
   no_name ds y name m e = none_some name (ap (symbol_name (kit_world leads new)) m.is ∙ e)
 
-  fresh_name : (u : PassedTree) (a : KitAround) (j : ℕ) → Placed u a j → rules.HasFreshName (kit_world leads old) a u → rules.HasFreshName (kit_world leads new) (later a j) (with_constants u)
+  fresh_name : (u : KitTree) (a : KitAround) (j : ℕ) → Placed u a j → rules.HasFreshName (kit_world leads old) a u → rules.HasFreshName (kit_world leads new) (later a j) (with_constants u)
   fresh_name u a j o fresh k other name less here named own =
       let list = operation_list (q_body made names a.body).operations in
-      let taken : List PassedTree = take a.index (operation_list a.body.operations) in
+      let taken : List KitTree = take a.index (operation_list a.body.operations) in
       ⊎_elim
       (λ f. no_name a.body.label.arguments other name (fronts_made made names a.body.label.arguments other f) named)
       (λ m. ⊎_elim
@@ -113,7 +114,7 @@ module _ (leads : TypeHandle → Option KitType) (old new : Value → Option Typ
 
   -- ---- ends of blocks
 
-  filled : (u : PassedTree) → (u.head.content.kind ≡ ops.Func → Every (λ (b : KitBody). operation_list b.operations ≢ []) (bodies_of u)) →
+  filled : (u : KitTree) → (u.head.content.kind ≡ ops.Func → Every (λ (b : KitBody). operation_list b.operations ≢ []) (bodies_of u)) →
       u.head.content.kind ≡ ops.Func → Every (λ (b : KitBody). operation_list b.operations ≢ []) (bodies_of (with_constants u))
   filled u h f k b e none =
       let x = map_at (q_body made names) (bodies_of u) k b (sym (ap (λ l. slice_get l k) (bodies_put made names u)) ∙ e) in
@@ -125,7 +126,7 @@ module _ (leads : TypeHandle → Option KitType) (old new : Value → Option Typ
       append_count (fronts made names body.label.arguments) (woven made names (operation_list body.operations)) in
       h f k body x.1 (nothing (operation_list body.operations) (woven_none made names (operation_list body.operations) (omega (arith, count, both))))
     where
-      nothing : (us : List PassedTree) → length us ≡ 0 → us ≡ []
+      nothing : (us : List KitTree) → length us ≡ 0 → us ≡ []
       nothing [] z = refl
       nothing (y ∷ us) z = absurd (omega (arith, z))
 
@@ -152,13 +153,13 @@ module _ (leads : TypeHandle → Option KitType) (old new : Value → Option Typ
 
   -- ---- types
 
-  types_kept : (u : PassedTree) (a : KitAround) (j : ℕ) → Placed u a j → map new (with_constants u).head.operands ≡ map old u.head.operands
+  types_kept : (u : KitTree) (a : KitAround) (j : ℕ) → Placed u a j → map new (with_constants u).head.operands ≡ map old u.head.operands
   types_kept u a j o = operand_types leads old new t good made names fits typed u a j o
 
   holds_kept : (ds : List (Defined Value TypeHandle)) → types_of (map (rename_defined names.value) (map (rename_defined Old) ds)) ≡ types_of ds
   holds_kept ds = holds_of leads old new t good made names fits typed ds
 
-  kind_types : (u : PassedTree) (a : KitAround) (j : ℕ) → Placed u a j → (k : KitOp) → rules.HasKindTypes (kit_world leads old) u k → rules.HasKindTypes (kit_world leads new) (with_constants u) k
+  kind_types : (u : KitTree) (a : KitAround) (j : ℕ) → Placed u a j → (k : KitOp) → rules.HasKindTypes (kit_world leads old) u k → rules.HasKindTypes (kit_world leads new) (with_constants u) k
   kind_types u a j o (ops.Arithmetic x) h = subst AreAllEqual (sym (λ i. types_kept u a j o i ++ map Some (holds_kept u.head.results i))) h
   kind_types u a j o (ops.Comparison x) h = (subst AreAllEqual (sym (types_kept u a j o)) h.0, subst (Every (IsBit (kit_world leads new))) (sym (holds_kept u.head.results)) h.1)
   kind_types u a j o ops.CondBr h = λ v here.
@@ -172,11 +173,11 @@ module _ (leads : TypeHandle → Option KitType) (old new : Value → Option Typ
       let m : t.head.content.kind ≡ ops.Module = root_keeps leads old new t good made names fits typed rule.RootIsModule refl in
       subst (rules.HasKindTypes (kit_world leads new) (with_constants t)) (sym m) tt
   rule_types _ (below u a j o) = kind_types u a j o u.head.content.kind (kept_at u a j o rule.TypesAgree)
-  rule_types _ (constant s c) = subst (λ (z : PassedTree). rules.HasKindTypes (kit_world leads new) z z.head.content.kind) c.is tt
+  rule_types _ (constant s c) = subst (λ (z : KitTree). rules.HasKindTypes (kit_world leads new) z z.head.content.kind) c.is tt
 
   -- ---- edges
 
-  leads_there : (u : PassedTree) (a : KitAround) (j : ℕ) → Placed u a j → (edge : ℕ) (target : Ptr BasicBlock) →
+  leads_there : (u : KitTree) (a : KitAround) (j : ℕ) → Placed u a j → (edge : ℕ) (target : Ptr BasicBlock) →
       rules.EdgeLeadsTo (kit_world leads old) u a edge target → rules.EdgeLeadsTo (kit_world leads new) (with_constants u) (later a j) edge (names.block target)
   leads_there u a j o edge target h =
       let k = u.head.content.kind in
@@ -206,11 +207,11 @@ module _ (leads : TypeHandle → Option KitType) (old new : Value → Option Typ
         subst (rules.EdgeLeadsTo (kit_world leads new) (with_constants u) (later a j) edge) x.2
             (leads_there u a j o edge x.0 (subst (λ (z : KitAround). rules.EdgeLeadsTo (kit_world leads old) u z edge x.0) (sym (some_same a y.0 y.1)) y.2)),
       )
-  rule_edges _ (constant s c) = λ edge target e. absurd (none_some target (ap (λ (z : PassedTree). slice_get z.head.successors edge) c.is ∙ e))
+  rule_edges _ (constant s c) = λ edge target e. absurd (none_some target (ap (λ (z : KitTree). slice_get z.head.successors edge) c.is ∙ e))
 
   -- ---- calls and returns
 
-  first_module_kept : (us : List PassedTree) (s : PassedTree) → first_module (kit_world leads old) us ≡ Some s → first_module (kit_world leads new) (map (q_tree made names) us) ≡ Some (with_constants s)
+  first_module_kept : (us : List KitTree) (s : KitTree) → first_module (kit_world leads old) us ≡ Some s → first_module (kit_world leads new) (map (q_tree made names) us) ≡ Some (with_constants s)
   first_module_kept [] s e = absurd (none_some s e)
   first_module_kept (u ∷ us) s e = step (is_module u.head.content.kind) e (first_module_kept us s)
     where
@@ -220,7 +221,7 @@ module _ (leads : TypeHandle → Option KitType) (old new : Value → Option Typ
       step true z ih = ap (λ x. Some (with_constants x)) (some_same u s z)
       step false z ih = ih z
 
-  member_kept : (x y : PassedTree) → Lists (members_of x) y → Lists (members_of (with_constants x)) (with_constants y)
+  member_kept : (x y : KitTree) → Lists (members_of x) y → Lists (members_of (with_constants x)) (with_constants y)
   member_kept x y l =
       let b = from_joined (λ (b : KitBody). operation_list b.operations) (bodies_of x) y (has_at_index (members_of x) l.0 y l.1) in
       let body : KitBody = b.0 in
@@ -233,7 +234,7 @@ module _ (leads : TypeHandle → Option KitType) (old new : Value → Option Typ
       index_of_has (members_of (with_constants x)) (with_constants y)
       (in_joined (λ (b : KitBody). operation_list b.operations) (bodies_of (with_constants x)) (q_body made names body) (with_constants y) bodies listed)
 
-  calls : (u : PassedTree) (a : KitAround) (j : ℕ) → Placed u a j → rules.CallsFunction (kit_world leads old) u a → rules.CallsFunction (kit_world leads new) (with_constants u) (later a j)
+  calls : (u : KitTree) (a : KitAround) (j : ℕ) → Placed u a j → rules.CallsFunction (kit_world leads old) u a → rules.CallsFunction (kit_world leads new) (with_constants u) (later a j)
   calls u a j o h = record {
     scope = with_constants h.scope;
     nearest = first_module_kept (a.owner ∷ a.outer) h.scope h.nearest;
@@ -277,7 +278,7 @@ module _ (leads : TypeHandle → Option KitType) (old new : Value → Option Typ
   one_type P ty h zero x e = subst P (some_same ty x e) h
   one_type P ty h (suc k) x e = absurd (none_some x e)
 
-  constant_kept : (u : PassedTree) → rules.HasConstantValue (kit_world leads old) u → rules.HasConstantValue (kit_world leads new) (with_constants u)
+  constant_kept : (u : KitTree) → rules.HasConstantValue (kit_world leads old) u → rules.HasConstantValue (kit_world leads new) (with_constants u)
   constant_kept u h = record {
     value = h.value;
     has_value = h.has_value;
@@ -296,7 +297,7 @@ module _ (leads : TypeHandle → Option KitType) (old new : Value → Option Typ
       subst (rules.HasConstantValue (kit_world leads new)) c.is
       (record { value = c.attribute; has_value = refl; is_type = f.is_type; in_range = f.in_range; results = one_type (λ z. z ≡ c.attribute.ty) c.attribute.ty refl })
 
-  common_blocks : (u : PassedTree) → Every (λ (b : KitBody). Every rules.IsCommon b.label.content.attributes) (bodies_of u) →
+  common_blocks : (u : KitTree) → Every (λ (b : KitBody). Every rules.IsCommon b.label.content.attributes) (bodies_of u) →
       Every (λ (b : KitBody). Every rules.IsCommon b.label.content.attributes) (bodies_of (with_constants u))
   common_blocks u h k b e =
       let x = map_at (q_body made names) (bodies_of u) k b (sym (ap (λ l. slice_get l k) (bodies_put made names u)) ∙ e) in
@@ -315,21 +316,21 @@ module _ (leads : TypeHandle → Option KitType) (old new : Value → Option Typ
       record { no_forward_ref = r.no_forward_ref; own = r.own; blocks = common_blocks u r.blocks }
   rule_attributes _ (constant s c) = record {
     no_forward_ref = λ e. is_kind leads old new t good made names fits typed s c ops.ForwardRef (λ z. cc z) e;
-    own = subst (λ (z : PassedTree). Every (rules.MayHave z.head.content.kind) z.head.content.notes.attributes) c.is (own_only c.value c.attribute);
-    blocks = λ k b e. absurd (none_some b (ap (λ (z : PassedTree). slice_get (bodies_of z) k) c.is ∙ e));
+    own = subst (λ (z : KitTree). Every (rules.MayHave z.head.content.kind) z.head.content.notes.attributes) c.is (own_only c.value c.attribute);
+    blocks = λ k b e. absurd (none_some b (ap (λ (z : KitTree). slice_get (bodies_of z) k) c.is ∙ e));
   }
 
-  counts : (u : PassedTree) (r s n : ℕ) → rules.Counts u r s n → rules.Counts (with_constants u) r s n
+  counts : (u : KitTree) (r s n : ℕ) → rules.Counts u r s n → rules.Counts (with_constants u) r s n
   counts u r s n h = record {
     results = length-map (rename_defined names.value) (map (rename_defined Old) u.head.results) ∙ (length-map (rename_defined Old) u.head.results ∙ h.results);
     successors = length-map names.block u.head.successors ∙ h.successors;
     regions = ap length (regions_put made names u.regions) ∙ (length-map (q_blocks made names) (region_list u.regions) ∙ h.regions);
   }
 
-  operand_count : (u : PassedTree) → length (with_constants u).head.operands ≡ length u.head.operands
+  operand_count : (u : KitTree) → length (with_constants u).head.operands ≡ length u.head.operands
   operand_count u = length-map names.value (map (λ v. used_as v (made v)) u.head.operands) ∙ length-map (λ v. used_as v (made v)) u.head.operands
 
-  fits_kind : (u : PassedTree) (k : KitOp) → rules.FitsKind (kit_world leads old) u k → rules.FitsKind (kit_world leads new) (with_constants u) k
+  fits_kind : (u : KitTree) (k : KitOp) → rules.FitsKind (kit_world leads old) u k → rules.FitsKind (kit_world leads new) (with_constants u) k
   fits_kind u ops.Module h = (counts u 0 0 1 h.0, operand_count u ∙ h.1, h.2)
   fits_kind u ops.Func h = (counts u 0 0 1 h.0, operand_count u ∙ h.1, h.2, h.3)
   fits_kind u ops.Constant h = (counts u 1 0 0 h.0, operand_count u ∙ h.1, h.2)
@@ -350,5 +351,5 @@ module _ (leads : TypeHandle → Option KitType) (old new : Value → Option Typ
   pub rule_format : (s : KitSite) → Site s → rules.FitsFormat (kit_world leads new) s
   rule_format _ at_root = fits_kind t t.head.content.kind (root_keeps leads old new t good made names fits typed rule.FitsFormat)
   rule_format _ (below u a j o) = fits_kind u u.head.content.kind (kept_at u a j o rule.FitsFormat)
-  rule_format _ (constant s c) = subst (λ (z : PassedTree). rules.FitsKind (kit_world leads new) z z.head.content.kind) c.is
+  rule_format _ (constant s c) = subst (λ (z : KitTree). rules.FitsKind (kit_world leads new) z z.head.content.kind) c.is
       (record { results = refl; successors = refl; regions = refl }, refl, (attrs.Integer c.attribute, refl, tt))

@@ -7,7 +7,9 @@ use Rattle.ir_trees.specs.Renames.{Maps, rename_defined}
 use Rattle.ir_trees.specs.Searched.{Lists}
 use Rattle.ir_trees.specs.Stands.{by_handle}
 use Rattle.ir_trees.specs.Trees.{Defined}
+use Rattle.kit.specs.Context.{KitTree}
 use Rattle.kit_checks.specs.Faults.{Keeps}
+use Rattle.kit_checks.specs.KitWorld.{HasDeclaredTypes, kit_world}
 use Rattle.kit_checks.specs.Rules as rules
 use Rattle.kit_checks.specs.Sites.{block_list, region_list}
 use Rattle.kit_checks.specs.Words.{Every, IsValueType, types_of, bodies_of, first_body, kind_of, is_instruction, visible, along_edge, segment}
@@ -19,7 +21,6 @@ use Rattle.kit_ops.specs.declared.kinds.KitOp.{KitOp}
 use Rattle.kit_ops.specs.declared.kinds.KitOp.TheVariants as ops
 use Rattle.kit_ops.specs.declared.types.KitType.{KitType}
 use Rattle.kit_pass_rules.specs.Laws.{IsGood}
-use Rattle.kit_pass_rules.specs.Worlds.{PassedTree, kit_world, IsTypedIn}
 use Rattle.kit_pass_rules.proofs.DceCame.{KitAround, KitSite}
 use Rattle.kit_pass_rules.proofs.Lists.{map_get, map_at, from_take, has_at_index, index_of_has}
 use Rattle.kit_pass_rules.proofs.PutIn.{q_regions, q_blocks, q_tree, q_body, blocks_put, regions_put, bodies_put}
@@ -70,13 +71,13 @@ from_along ops.Br sizes xs i x h = h
 from_along ops.CondBr sizes xs i x h = from_segment sizes (suc i) xs x h
 from_along k sizes xs i x h = absurd h
 
-module _ (leads : TypeHandle → Option KitType) (old new : Value → Option TypeHandle) (t : PassedTree) (good : IsGood leads old t)
+module _ (leads : TypeHandle → Option KitType) (old new : Value → Option TypeHandle) (t : KitTree) (good : IsGood leads old t)
     (made : Value → Option IntegerAttr) (names : Maps (fresh by_handle) by_handle) (fits : (v : Value) (a : IntegerAttr) → made v ≡ Some a → Fits leads old v a)
-    (typed : IsTypedIn new (q_tree made names t)) where
+    (typed : HasDeclaredTypes new (q_tree made names t)) where
   abbrev pub uses : Value → Value
   uses v = names.value (used_as v (made v))
 
-  abbrev pub q : PassedTree → PassedTree
+  abbrev pub q : KitTree → KitTree
   q u = q_tree made names u
 
   abbrev pub around_of : KitAround → ℕ → KitAround
@@ -85,13 +86,13 @@ module _ (leads : TypeHandle → Option KitType) (old new : Value → Option Typ
   abbrev pub Comes_ : KitSite → Type 0
   Comes_ s = Comes leads old t good made names s
 
-  abbrev pub Was_ : PassedTree → KitAround → ℕ → Type 0
+  abbrev pub Was_ : KitTree → KitAround → ℕ → Type 0
   Was_ u a j = Was leads old t good made names u a j
 
   pub root_keeps : (r : Rule) → Keeps (kit_world leads old) r (record { op = t; around = None })
   root_keeps r = good.obeys r [] (record { op = t; around = None }) refl
 
-  pub keeps : (u : PassedTree) (a : KitAround) (j : ℕ) → Was_ u a j → (r : Rule) → Keeps (kit_world leads old) r (record { op = u; around = Some a })
+  pub keeps : (u : KitTree) (a : KitAround) (j : ℕ) → Was_ u a j → (r : Rule) → Keeps (kit_world leads old) r (record { op = u; around = Some a })
   keeps u a j o r = keeps_below leads old t good made names (record { op = a.owner; around = o.up_around }) a.outer o.up o.region a.number a.index a.blocks a.body u o.region_here o.block_here o.here r
 
   pub operands_of : (xs : List Value) → map names.value (map (λ v. used_as v (made v)) xs) ≡ map uses xs
@@ -102,7 +103,7 @@ module _ (leads : TypeHandle → Option KitType) (old new : Value → Option Typ
   holds_of (d ∷ ds) = ap (λ l. d.holds ∷ l) (holds_of ds)
 
   -- rule 7
-  pub seen_operand : (u : PassedTree) (a : KitAround) (j : ℕ) (o : Was_ u a j) (v : Value) → Has v u.head.operands → Has (uses v) (visible (around_of a j)) × (new (uses v) ≡ old v)
+  pub seen_operand : (u : KitTree) (a : KitAround) (j : ℕ) (o : Was_ u a j) (v : Value) → Has v u.head.operands → Has (uses v) (visible (around_of a j)) × (new (uses v) ≡ old v)
   seen_operand u a j o v h =
       let r : rules.OperandsAreVisible (kit_world leads old) (record { op = u; around = Some a }) = keeps u a j o rule.OperandsAreVisible in
       let i = index_of_has u.head.operands v h in
@@ -116,7 +117,7 @@ module _ (leads : TypeHandle → Option KitType) (old new : Value → Option Typ
       step [] h = refl
       step (y ∷ ys) h = ap (λ z. z ∷ map new (map uses ys)) (h y (inl refl)) ∙ ap (λ l. old y ∷ l) (step ys (λ v i. h v (inr i)))
 
-  pub operand_types : (u : PassedTree) (a : KitAround) (j : ℕ) → Was_ u a j → map new (q u).head.operands ≡ map old u.head.operands
+  pub operand_types : (u : KitTree) (a : KitAround) (j : ℕ) → Was_ u a j → map new (q u).head.operands ≡ map old u.head.operands
   operand_types u a j o = same_types (q u).head.operands u.head.operands (λ v h. (seen_operand u a j o v h).1) (operands_of u.head.operands)
 
   pub rule_visible : (s : KitSite) → Comes_ s → rules.OperandsAreVisible (kit_world leads new) s
@@ -131,7 +132,7 @@ module _ (leads : TypeHandle → Option KitType) (old new : Value → Option Typ
     root = λ e. absurd (none_some (around_of a j) (sym e));
   }
   rule_visible _ (constant s c) = record {
-    inside = λ b e k v h. absurd (none_some v (ap (λ (z : PassedTree). slice_get z.head.operands k) c.is ∙ h));
+    inside = λ b e k v h. absurd (none_some v (ap (λ (z : KitTree). slice_get z.head.operands k) c.is ∙ h));
     root = λ e. absurd (none_some c.around (sym e ∙ c.is_in));
   }
 
@@ -142,7 +143,7 @@ module _ (leads : TypeHandle → Option KitType) (old new : Value → Option Typ
 
   -- the kind of a constant
   pub constant_kind : (s : KitSite) → Put leads old t good made names s → kind_of (kit_world leads new) s.op ≡ ops.Constant
-  constant_kind s c = sym (ap (λ (z : PassedTree). z.head.content.kind) c.is)
+  constant_kind s c = sym (ap (λ (z : KitTree). z.head.content.kind) c.is)
 
   pub is_kind : (s : KitSite) → Put leads old t good made names s → (k : KitOp) → (ops.Constant ≡ k → ⊥) → kind_of (kit_world leads new) s.op ≡ k → ⊥
   is_kind s c k other e = other (sym (constant_kind s c) ∙ e)
@@ -150,7 +151,7 @@ module _ (leads : TypeHandle → Option KitType) (old new : Value → Option Typ
   owner_kind : (s : KitSite) (c : Put leads old t good made names s) (a : KitAround) (k : KitOp) → rules.InKind (kit_world leads new) s k a → k ≡ ops.Func
   owner_kind s c a k h = sym h.1 ∙ (ap (λ (z : KitAround). z.owner.head.content.kind) (some_same a c.around (sym h.0 ∙ c.is_in)) ∙ c.in_function)
 
-  function_body : (u : PassedTree) → rules.HasFunctionBody (kit_world leads old) u → rules.HasFunctionBody (kit_world leads new) (q u)
+  function_body : (u : KitTree) → rules.HasFunctionBody (kit_world leads old) u → rules.HasFunctionBody (kit_world leads new) (q u)
   function_body u h =
       let x = both first_body (slice_get (region_list u.regions) 0) h.entry h.has_entry in
       let region : slice_get (region_list (q_regions made names u.regions)) 0 ≡ Some (q_blocks made names x.0) =
@@ -180,9 +181,9 @@ module _ (leads : TypeHandle → Option KitType) (old new : Value → Option Typ
       let r : rules.FunctionHolds (kit_world leads old) (record { op = u; around = Some a }) = keeps u a j o rule.FunctionHolds in
       let x = r a (refl, ap (λ (z : KitAround). kind_of (kit_world leads new) z.owner) (some_same (around_of a j) b h.0) ∙ h.1) in
       (x.0, regions_put made names u.regions ∙ ap (map (q_blocks made names)) x.1)
-  rule_holds _ (constant s c) = λ b h. (ap is_instruction (constant_kind s c), sym (ap (λ (z : PassedTree). region_list z.regions) c.is))
+  rule_holds _ (constant s c) = λ b h. (ap is_instruction (constant_kind s c), sym (ap (λ (z : KitTree). region_list z.regions) c.is))
 
-  value_types : (u : PassedTree) → Every (λ (b : KitBody). Every (IsValueType (kit_world leads old)) (types_of b.label.arguments)) (bodies_of u) →
+  value_types : (u : KitTree) → Every (λ (b : KitBody). Every (IsValueType (kit_world leads old)) (types_of b.label.arguments)) (bodies_of u) →
       Every (λ (b : KitBody). Every (IsValueType (kit_world leads new)) (types_of b.label.arguments)) (bodies_of (q u))
   value_types u h k b e =
       let x = map_at (q_body made names) (bodies_of u) k b (sym (ap (λ l. slice_get l k) (bodies_put made names u)) ∙ e) in
@@ -200,9 +201,9 @@ module _ (leads : TypeHandle → Option KitType) (old new : Value → Option Typ
       let f = fits c.value c.attribute c.is_made in
       let ty : c.attribute.ty ≡ c.typed.type = some_same c.attribute.ty c.typed.type (sym f.typed ∙ c.typed.was) in
       record {
-        results = subst (λ (z : PassedTree). Every (IsValueType (kit_world leads new)) (types_of z.head.results)) c.is
+        results = subst (λ (z : KitTree). Every (IsValueType (kit_world leads new)) (types_of z.head.results)) c.is
             (one c.attribute.ty (subst (IsValueType (kit_world leads new)) (sym ty) c.typed.value));
-        arguments = λ k b e. absurd (none_some b (ap (λ (z : PassedTree). slice_get (bodies_of z) k) c.is ∙ e));
+        arguments = λ k b e. absurd (none_some b (ap (λ (z : KitTree). slice_get (bodies_of z) k) c.is ∙ e));
       }
     where
       one : (ty : TypeHandle) → IsValueType (kit_world leads new) ty → Every (IsValueType (kit_world leads new)) (ty ∷ [])

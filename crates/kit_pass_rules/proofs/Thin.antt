@@ -3,10 +3,10 @@ use Rattle.std.proofs.Common.{◌≡◌, inl, inr, ℕ, zero, suc, Bool, true, f
 use Rattle.std.specs.Prelude.{if◌then◌else◌}
 use Rattle.ir_trees.specs.Stands.{by_handle}
 use Rattle.ir_trees.specs.Trees.{Operations, Blocks, Regions, end, operation, block, region}
+use Rattle.kit.specs.Context.{KitTree}
 use Rattle.kit.specs.Meaning.{KitOperation, KitBlock, kit}
 use Rattle.kit_checks.specs.Sites.{Listed, Body, operation_list, block_list, region_list}
 use Rattle.kit_checks.specs.Words.{bodies_of, joined}
-use Rattle.kit_pass_rules.specs.Worlds.{PassedTree}
 use Rattle.kit_pass_rules.proofs.Left.{left}
 use Rattle.opt_trees.specs.Dialect.{drop}
 use Rattle.opt_trees.specs.Dce.{Gone, Whole, thin_head, thin_label, thin}
@@ -18,13 +18,13 @@ KitBody = Body KitOperation KitBlock
 
 module _ (g : Gone by_handle) where
   -- the operation, the block without what goes
-  abbrev pub thin_tree : PassedTree → PassedTree
+  abbrev pub thin_tree : KitTree → KitTree
   thin_tree u = record { head = thin_head kit g u.head; regions = thin kit g u.regions }
 
   abbrev pub thin_body : KitBody → KitBody
   thin_body b = record { label = thin_label kit g b.label; operations = thin kit g b.operations }
 
-  abbrev pub goes : PassedTree → Bool
+  abbrev pub goes : KitTree → Bool
   goes u = g.item (Whole u.head.name)
 
   pub regions_thin : (rs : Listed KitOperation KitBlock Regions) → region_list (thin kit g rs) ≡ map (λ (bs : Listed KitOperation KitBlock Blocks). thin kit g bs) (region_list rs)
@@ -53,7 +53,7 @@ module _ (g : Gone by_handle) where
       ap (λ l. l ++ joined (map block_list (map (λ (bs : Listed KitOperation KitBlock Blocks). thin kit g bs) rs))) (blocks_thin bs)
       ∙ (ap (λ l. map thin_body (block_list bs) ++ l) (bodies_step rs) ∙ sym (map-append thin_body (block_list bs) (joined (map block_list rs))))
 
-  pub bodies_thin : (u : PassedTree) → bodies_of (thin_tree u) ≡ map thin_body (bodies_of u)
+  pub bodies_thin : (u : KitTree) → bodies_of (thin_tree u) ≡ map thin_body (bodies_of u)
   bodies_thin u = ap (λ l. joined (map block_list l)) (regions_thin u.regions) ∙ bodies_step (region_list u.regions)
 
 -- what is left of a list of what is left stands in the list

@@ -5,33 +5,35 @@ use Rattle.ir_base.specs.declared.types.TypeHandle.{TypeHandle}
 use Rattle.ir_program.specs.declared.handles.Value.{Value}
 use Rattle.ir_trees.specs.Renames.{names_of}
 use Rattle.ir_trees.specs.Stands.{by_handle, in_program}
+use Rattle.kit.specs.Context.{KitTree}
 use Rattle.kit.specs.Meaning.{KitOperation, KitBlock, kit}
+use Rattle.kit_checks.specs.KitWorld.{HasDeclaredTypes, kit_world}
 use Rattle.kit_pass_rules.specs.CutLaws.{IsNamedApart}
 use Rattle.kit_ops.specs.declared.attributes.IntegerAttr.{IntegerAttr}
 use Rattle.kit_ops.specs.declared.types.KitType.{KitType}
 use Rattle.kit_pass_rules.specs.Laws.{IsGood, MakesUpToNames}
-use Rattle.kit_pass_rules.specs.Worlds.{PassedTree, kit_world, IsTypedIn, ObeysIn}
+use Rattle.kit_pass_rules.specs.Worlds.{ObeysIn}
 use Rattle.opt_trees.specs.Dce.{TreeSurroundings}
 use Rattle.opt_trees.specs.Occurrences.{Has, Occurrence, BlockOccurrence, occurrences_of, block_occurrences_of}
 use Rattle.opt_trees.specs.Simplify.{IsJoined, IsSimplify, all_of}
 
 -- no value is both an argument of a block and a result of an operation, as in each tree of a program
-abbrev pub DefinersApart : PassedTree → Type 0
+abbrev pub DefinersApart : KitTree → Type 0
 DefinersApart t = (x : BlockOccurrence by_handle (in_program KitOperation KitBlock))
     (o : Occurrence by_handle (in_program KitOperation KitBlock)) (v : Value) → Has x (block_occurrences_of t) →
     Has o (occurrences_of t) → Has v (names_of x.label.arguments) → Has v (names_of o.head.results) → ⊥
 
 -- what has come of a good tree whose arguments are no results is good by the same types
-abbrev pub StaysWhole : (PassedTree → PassedTree → Type 0) → Type 0
+abbrev pub StaysWhole : (KitTree → KitTree → Type 0) → Type 0
 StaysWhole Makes =
-    (leads : TypeHandle → Option KitType) (typed : Value → Option TypeHandle) (t after : PassedTree) →
+    (leads : TypeHandle → Option KitType) (typed : Value → Option TypeHandle) (t after : KitTree) →
     IsGood leads typed t → DefinersApart t → Makes t after → IsGood leads typed after
 
 -- it keeps the rules, where values have the types that it says
-abbrev pub StaysRuled : (PassedTree → PassedTree → Type 0) → Type 0
+abbrev pub StaysRuled : (KitTree → KitTree → Type 0) → Type 0
 StaysRuled Makes =
-    (leads : TypeHandle → Option KitType) (old new : Value → Option TypeHandle) (t after : PassedTree) →
-    IsGood leads old t → DefinersApart t → Makes t after → IsTypedIn new after → ObeysIn (kit_world leads new) after
+    (leads : TypeHandle → Option KitType) (old new : Value → Option TypeHandle) (t after : KitTree) →
+    IsGood leads old t → DefinersApart t → Makes t after → HasDeclaredTypes new after → ObeysIn (kit_world leads new) after
 
 -- with its chains joined it stays good
 abbrev pub JoinedStaysGood : Type 0

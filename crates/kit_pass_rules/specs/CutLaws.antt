@@ -8,24 +8,24 @@ use Rattle.ir_program.specs.declared.handles.Value.{Value}
 use Rattle.ir_trees.specs.Renames.{KeepsApart, rename_root}
 use Rattle.ir_trees.specs.Searched.{operation_names}
 use Rattle.ir_trees.specs.Stands.{by_handle}
+use Rattle.kit.specs.Context.{KitTree}
 use Rattle.kit.specs.Meaning.{kit}
 use Rattle.kit_ops.specs.declared.attributes.IntegerAttr.{IntegerAttr}
 use Rattle.kit_ops.specs.declared.types.KitType.{KitType}
 use Rattle.kit_pass_rules.specs.Laws.{IsGood, MakesUpToNames, StaysGood}
 use Rattle.kit_pass_rules.specs.Names.{maps_of}
-use Rattle.kit_pass_rules.specs.Worlds.{PassedTree}
 use Rattle.opt_trees.specs.Dce.{TreeSurroundings}
 use Rattle.opt_trees.specs.Simplify.{IsCut, all_of, decided}
 
 -- what has come of a good tree is good, where values have the types that they had
-abbrev pub LeavesGood : (PassedTree → PassedTree → Type 0) → Type 0
+abbrev pub LeavesGood : (KitTree → KitTree → Type 0) → Type 0
 LeavesGood Makes =
-    (leads : TypeHandle → Option KitType) (typed : Value → Option TypeHandle) (t after : PassedTree) →
+    (leads : TypeHandle → Option KitType) (typed : Value → Option TypeHandle) (t after : KitTree) →
     IsGood leads typed t → Makes t after → IsGood leads typed after
 
 -- it is the tree after that, where different operations of the tree before have got different handles
-abbrev pub IsNamedApart : (PassedTree → PassedTree → Type 0) → PassedTree → PassedTree → Type 0
-IsNamedApart Makes t after = (made : PassedTree) × Makes t made × (names : Ptr Operation → Ptr Operation)
+abbrev pub IsNamedApart : (KitTree → KitTree → Type 0) → KitTree → KitTree → Type 0
+IsNamedApart Makes t after = (made : KitTree) × Makes t made × (names : Ptr Operation → Ptr Operation)
     × KeepsApart names (operation_names t) × (after ≡ rename_root (maps_of names) made)
 
 -- with branches decided it is

@@ -8,10 +8,12 @@ use Rattle.ir_program.specs.declared.handles.Value.{Value}
 use Rattle.ir_trees.specs.Renames.{Maps, rename_root}
 use Rattle.ir_trees.specs.Stands.{by_handle, in_program}
 use Rattle.ir_trees.specs.Trees.{Root}
+use Rattle.kit.specs.Context.{KitTree}
 use Rattle.kit.specs.Meaning.{KitOperation, KitBlock, kit}
+use Rattle.kit_checks.specs.KitWorld.{HasDeclaredTypes, kit_world}
 use Rattle.kit_ops.specs.declared.attributes.IntegerAttr.{IntegerAttr}
 use Rattle.kit_ops.specs.declared.types.KitType.{KitType}
-use Rattle.kit_pass_rules.specs.Worlds.{PassedTree, kit_world, HandlesAreApart, IsTypedIn, ObeysIn}
+use Rattle.kit_pass_rules.specs.Worlds.{HandlesAreApart, ObeysIn}
 use Rattle.opt_trees.specs.Dce.{TreeSurroundings, IsDce}
 use Rattle.opt_trees.specs.Sccp.{IsSccp, fresh}
 use Rattle.kit_pass_rules.specs.Names.{maps_of}
@@ -19,23 +21,23 @@ use Rattle.opt_trees.specs.Simplify.{IsCut, all_of, decided}
 
 -- the tree keeps the rules in a world of these types, where its values are as it says, under handles that are apart
 pub record IsGood (leads : TypeHandle → Option KitType) (typed : Value → Option TypeHandle)
-    (t : PassedTree) : Type 0 where
+    (t : KitTree) : Type 0 where
   pub obeys : ObeysIn (kit_world leads typed) t
-  pub typed_in : IsTypedIn typed t
+  pub typed_in : HasDeclaredTypes typed t
   pub apart : HandlesAreApart t
 
 -- what has come of a good tree keeps the rules, where values have the types that it says
-abbrev pub StaysGood : (PassedTree → PassedTree → Type 0) → Type 0
+abbrev pub StaysGood : (KitTree → KitTree → Type 0) → Type 0
 StaysGood Makes =
-    (leads : TypeHandle → Option KitType) (old new : Value → Option TypeHandle) (t after : PassedTree) →
-    IsGood leads old t → Makes t after → IsTypedIn new after → ObeysIn (kit_world leads new) after
+    (leads : TypeHandle → Option KitType) (old new : Value → Option TypeHandle) (t after : KitTree) →
+    IsGood leads old t → Makes t after → HasDeclaredTypes new after → ObeysIn (kit_world leads new) after
 
 -- without what is dead it does
 abbrev pub DceKeepsRules : Type 0
 DceKeepsRules = (w : TreeSurroundings by_handle IntegerAttr) → StaysGood (IsDce kit w)
 
 -- the tree with constants put in for known values, under whatever handles
-pub record IsSccpUpToNames (t after : PassedTree) : Type 0 where
+pub record IsSccpUpToNames (t after : KitTree) : Type 0 where
   pub put_in : Root (fresh by_handle) (in_program KitOperation KitBlock)
   pub is_sccp : IsSccp kit t put_in
   pub names : Maps (fresh by_handle) by_handle
@@ -46,8 +48,8 @@ abbrev pub SccpKeepsRules : Type 0
 SccpKeepsRules = StaysGood IsSccpUpToNames
 
 -- the first two phases of simplifying control flow, up to handles of operations: branches decided, and blocks cut
-abbrev pub MakesUpToNames : (PassedTree → PassedTree → Type 0) → PassedTree → PassedTree → Type 0
-MakesUpToNames Makes t after = (made : PassedTree) × Makes t made × (names : Ptr Operation → Ptr Operation)
+abbrev pub MakesUpToNames : (KitTree → KitTree → Type 0) → KitTree → KitTree → Type 0
+MakesUpToNames Makes t after = (made : KitTree) × Makes t made × (names : Ptr Operation → Ptr Operation)
     × (after ≡ rename_root (maps_of names) made)
 
 abbrev pub DecidedKeepsRules : Type 0

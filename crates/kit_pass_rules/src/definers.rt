@@ -2,8 +2,8 @@
 ghost use Rattle.std.specs.Prelude.{IsSome};
 ghost use Rattle.ir_program.specs.Program.{operation_at};
 ghost use Rattle.ir_trees.specs.Stands.{StandsFor};
+ghost use Rattle.kit.specs.Context.{KitTree};
 ghost use Rattle.kit_pass_rules.specs.ChainLaws.{DefinersApart};
-ghost use Rattle.kit_pass_rules.specs.Worlds.{PassedTree};
 
 use ir_context::Context;
 use ir_program::{Operation, Ptr};
@@ -14,7 +14,7 @@ use opt_inside::know_occurrences;
 /// operation. It does nothing.
 pub fn know_definers(ctx: &Context<Kit>, op: Ptr<Operation>)
     requires { IsSome (operation_at ctx.now.program op) }
-    ensures { (t : PassedTree) → StandsFor ctx.now.program op t → DefinersApart t }
+    ensures { (t : KitTree) → StandsFor ctx.now.program op t → DefinersApart t }
 {
     let program = ctx.program();
     program.know_values();

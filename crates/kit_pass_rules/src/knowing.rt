@@ -2,7 +2,9 @@
 ghost use Rattle.std.specs.Prelude.{IsSome};
 ghost use Rattle.ir_program.specs.Program.{operation_at, type_at};
 ghost use Rattle.ir_trees.specs.Stands.{StandsFor};
-ghost use Rattle.kit_pass_rules.specs.Worlds.{HandlesAreApart, IsTypedIn, PassedTree};
+ghost use Rattle.kit.specs.Context.{KitTree};
+ghost use Rattle.kit_checks.specs.KitWorld.{HasDeclaredTypes};
+ghost use Rattle.kit_pass_rules.specs.Worlds.{HandlesAreApart};
 
 use ir_context::Context;
 use ir_program::{Operation, Ptr};
@@ -13,8 +15,8 @@ use opt_inside::know_occurrences;
 /// the type that the tree says. It does nothing.
 pub fn know_handles_and_types(ctx: &Context<Kit>, op: Ptr<Operation>)
     requires { IsSome (operation_at ctx.now.program op) }
-    ensures apart { (t : PassedTree) → StandsFor ctx.now.program op t → HandlesAreApart t }
-    ensures typed { (t : PassedTree) → StandsFor ctx.now.program op t → IsTypedIn (type_at ctx.now.program) t }
+    ensures apart { (t : KitTree) → StandsFor ctx.now.program op t → HandlesAreApart t }
+    ensures typed { (t : KitTree) → StandsFor ctx.now.program op t → HasDeclaredTypes (type_at ctx.now.program) t }
 {
     let program = ctx.program();
     program.know_values();

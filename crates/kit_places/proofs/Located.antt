@@ -11,8 +11,9 @@ use Rattle.ir_names.specs.Identifier.{text_of}
 use Rattle.ir_program.specs.declared.handles.Ptr.{Ptr}
 use Rattle.ir_program.specs.declared.handles.Operation.{Operation}
 use Rattle.ir_trees.specs.Searched.{Lists}
+use Rattle.kit.specs.Context.{KitProgram}
 use Rattle.kit_places.specs.declared.places.Place.{Place}
-use Rattle.kit_places.specs.Store.{InterpretedProgram, body_of, members, function_named, module_named, first_with, locate}
+use Rattle.kit_places.specs.Store.{body_of, members, function_named, module_named, first_with, locate}
 use Rattle.kit_places.specs.Placed.{IsPlaceOfFunction, IsLocated}
 
 abbrev texts : List Identifier → List (List ℕ)
@@ -33,7 +34,7 @@ nonempty_left [] n h = absurd (omega arith)
 nonempty_left (x ∷ xs) zero h = omega arith
 nonempty_left (x ∷ xs) (suc n) h = nonempty_left xs n (omega (arith, h))
 
-module _ (c : InterpretedProgram) where
+module _ (c : KitProgram) where
   at_more : (m : Ptr Operation) (x : Identifier) (rest : List Identifier) → 0 < length rest
       → locate c m (texts (x ∷ rest)) ≡ option_and_then (λ k. locate c k (texts rest)) (module_named c m (text_of x))
   at_more m x [] h = absurd (omega arith)
@@ -77,7 +78,7 @@ module _ (c : InterpretedProgram) where
       }
 
 -- what is found in a module is there
-pub member_live : (p c : InterpretedProgram) → p ≡ c →
+pub member_live : (p c : KitProgram) → p ≡ c →
     ((b : Ptr BasicBlock) (k : ℕ) (q : Ptr Operation) → slice_get (operations_in p b) k ≡ Some q
     → StandsInBlock p q b) → (m f : Ptr Operation) → Lists (members c m) f → IsSome (operation_at c f)
 member_live p c e know m f l = go (slice_get (body_of c m) 0) l
@@ -85,5 +86,5 @@ member_live p c e know m f l = go (slice_get (body_of c m) 0) l
     go : (o : Option (Ptr BasicBlock)) → Lists (unwrap_or (option_map (operations_in c) o) []) f
         → IsSome (operation_at c f)
     go None l = absurd (none-some f l.1)
-    go (Some b) l = (subst (λ (r : InterpretedProgram). (b : Ptr BasicBlock) (k : ℕ) (q : Ptr Operation)
+    go (Some b) l = (subst (λ (r : KitProgram). (b : Ptr BasicBlock) (k : ℕ) (q : Ptr Operation)
         → slice_get (operations_in r b) k ≡ Some q → StandsInBlock r q b) e know b l.0 f l.1).operation

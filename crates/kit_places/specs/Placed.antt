@@ -5,21 +5,22 @@ use Rattle.ir_names.specs.Identifier.{text_of}
 use Rattle.ir_program.specs.Program.{operation_at}
 use Rattle.ir_program.specs.declared.handles.Ptr.{Ptr}
 use Rattle.ir_program.specs.declared.handles.Operation.{Operation}
+use Rattle.kit.specs.Context.{KitContext, KitProgram}
 use Rattle.kit_places.specs.declared.places.Place.{Place}
-use Rattle.kit_places.specs.Store.{InterpretedContext, InterpretedProgram, function_named, locate}
+use Rattle.kit_places.specs.Store.{function_named, locate}
 
 -- where a path of names leads from a module
-abbrev pub place_of : InterpretedContext → Ptr Operation → List Identifier → Option Place
+abbrev pub place_of : KitContext → Ptr Operation → List Identifier → Option Place
 place_of s root path = locate s.program root (map text_of path)
 
 -- the place is that of a function of this name, and it is there
-pub record IsPlaceOfFunction (c : InterpretedProgram) (name : List ℕ) (p : Place) : Type 0 where
+pub record IsPlaceOfFunction (c : KitProgram) (name : List ℕ) (p : Place) : Type 0 where
   pub within_live : IsSome (operation_at c p.within)
   pub function_live : IsSome (operation_at c p.function)
   pub named : function_named c p.within name ≡ Some p.function
 
 -- so it is for the last name of a path
-pub record IsLocated (c : InterpretedProgram) (path : List Identifier) (p : Place) : Type 0 where
+pub record IsLocated (c : KitProgram) (path : List Identifier) (p : Place) : Type 0 where
   pub nonempty : 0 < length path
   pub within_live : IsSome (operation_at c p.within)
   pub function_live : IsSome (operation_at c p.function)

@@ -4,20 +4,17 @@ use Rattle.std.specs.Str.{bytes_eq}
 use Rattle.ir_base.specs.declared.types.TypeHandle.{TypeHandle}
 use Rattle.ir_names.specs.Dictionary.{attribute_at}
 use Rattle.ir_names.specs.Identifier.{text_of}
-use Rattle.ir_types.specs.Views.{TypesView}
 use Rattle.ir_types.specs.Interned.{key_at}
-use Rattle.ir_program.specs.Program.{Program, BlockView, block_at, results_at, type_in}
+use Rattle.ir_program.specs.Program.{BlockView, block_at, results_at, type_in}
 use Rattle.ir_program.specs.Lists.{operations_in, blocks_in, regions_in}
 use Rattle.ir_program.specs.Rows.{operands_at, successors_at}
 use Rattle.ir_program.specs.declared.handles.Ptr.{Ptr}
 use Rattle.ir_program.specs.declared.handles.Operation.{Operation}
 use Rattle.ir_program.specs.declared.handles.BasicBlock.{BasicBlock}
 use Rattle.ir_program.specs.declared.handles.Value.{Value}
-use Rattle.ir_context.specs.Views.{ContextView}
 use Rattle.ir_context.specs.Kept.{kind_at, notes_at}
-use Rattle.ir_context.specs.declared.notes.OperationData.{OperationData}
 use Rattle.ir_context.specs.declared.notes.OperationNotes.{OperationNotes}
-use Rattle.ir_context.specs.declared.notes.BlockNotes.{BlockNotes}
+use Rattle.kit.specs.Context.{KitContext, KitProgram}
 use Rattle.kit_ops.specs.Keys.{symbol_name, constant_value, segment_sizes, callee}
 use Rattle.kit.specs.declared.dialect.Kit.{Kit}
 use Rattle.kit.specs.declared.dialect.Unused.{Unused}
@@ -34,19 +31,7 @@ use Rattle.kit_flat.specs.Machine.{MachineOp, Other, MachineBlock, Code}
 use Rattle.kit_flat.specs.Forms.{Form, Constant, Calculate, Compare, Emit, Call, Br, CondBr, Return, op_of}
 use Rattle.kit_places.specs.declared.places.Place.{Place}
 use Rattle.kit_places.specs.Numbers.{values_of}
-
--- what is seen of a context of `kit`
-abbrev pub KitData : Type 0
-KitData = OperationData Kit KitTypeKind KitAttrKind Unused Unused KitLocation KitOp KitAttr KitType
-
-abbrev pub KitNotes : Type 0
-KitNotes = BlockNotes Kit KitTypeKind KitAttrKind Unused Unused KitLocation KitOp KitAttr KitType
-
-abbrev pub InterpretedProgram : Type 0
-InterpretedProgram = Program KitData KitNotes
-
-abbrev pub InterpretedContext : Type 0
-InterpretedContext = ContextView KitData KitNotes (TypesView KitType Unused Unused)
+use Rattle.kit.specs.Meaning.{KitBlock}
 
 -- ---- forms
 
@@ -116,7 +101,7 @@ abbrev pub first_with : {X : Type 0} → (X → Bool) → List X → Option X
 first_with test [] = None
 first_with test (x ∷ xs) = if test x then Some x else first_with test xs
 
-module _ (c : InterpretedProgram) where
+module _ (c : KitProgram) where
   -- the attribute of an operation under a key
   abbrev pub attribute_of : Ptr Operation → List ℕ → Option KitAttr
   attribute_of p key = option_and_then (λ (n : OperationNotes Kit KitTypeKind KitAttrKind Unused Unused KitLocation
@@ -151,7 +136,7 @@ module _ (c : InterpretedProgram) where
 
 -- ---- what the machine executes
 
-module _ (s : InterpretedContext) where
+module _ (s : KitContext) where
   -- the width of a type
   abbrev pub width_at : TypeHandle → Option ℕ
   width_at ty = width_of (key_at s.types ty)
@@ -168,7 +153,7 @@ module _ (s : InterpretedContext) where
     op_at p = op_if (form_at p) (values_of (results_at s.program p)) (operands_at s.program p)
         (successors_at s.program p)
 
-    abbrev pub block_seen : BlockView KitNotes → MachineBlock Value (Ptr BasicBlock) (Ptr Operation)
+    abbrev pub block_seen : BlockView KitBlock → MachineBlock Value (Ptr BasicBlock) (Ptr Operation)
     block_seen b = record { arguments = values_of b.arguments; operations = map op_at b.operations }
 
     -- the functions of module m. A run never leaves the module of its function, since calls are of functions of the

@@ -11,13 +11,14 @@ use Rattle.ir_trees.specs.Renames.{Maps, names_of, rename, rename_defined}
 use Rattle.ir_trees.specs.Stands.{by_handle, Handles, AreTree, ProgramHead, defined_by}
 use Rattle.ir_trees.specs.Stands.{no_operations, no_blocks, no_regions, first_operation, first_block, first_region}
 use Rattle.ir_trees.specs.Trees.{Sort, Operations, Blocks, Regions, Defined, end, operation, block, region}
+use Rattle.kit.specs.Context.{KitProgram}
 use Rattle.opt_inside.specs.Around.{or_none, folded_alone}
 use Rattle.opt_inside.specs.Numbered.{values_in}
 use Rattle.opt_trees.specs.Occurrences.{types_of}
 use Rattle.opt_trees.specs.Simplify.{is_empty, is_end, is_bare, along_edge, decide_head, decide}
 use Rattle.kit.specs.Meaning.{KitOperation, KitBlock, kit}
 use Rattle.kit_ops.specs.declared.attributes.IntegerAttr.{IntegerAttr}
-use Rattle.kit_ruled_passes.specs.Scopes.{KitProgram, Part}
+use Rattle.kit_ruled_passes.specs.Scopes.{Part}
 use Rattle.kit_ruled_passes.proofs.ScopesAfter.{map_same}
 use Rattle.kit_ruled_passes.proofs.InTrees.{HasOperation, same_some}
 

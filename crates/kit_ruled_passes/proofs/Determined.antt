@@ -11,6 +11,7 @@ use Rattle.ir_program.specs.declared.handles.Value.{Value}
 use Rattle.ir_trees.specs.Renames.{names_of}
 use Rattle.ir_trees.specs.Stands.{by_handle}
 use Rattle.ir_trees.specs.Trees.{Sort, Operations, Blocks, Regions, end, operation, block, region}
+use Rattle.kit.specs.Context.{KitTree}
 use Rattle.opt_inside.proofs.Closed.{blocks_below}
 use Rattle.opt_rows.specs.declared.known.Known.{Known}
 use Rattle.opt_rows.specs.declared.known.Known.TheVariants.{Undetermined, One, Any}
@@ -23,7 +24,6 @@ use Rattle.kit.specs.Lawful.{kit_lawful}
 use Rattle.kit.specs.Meaning.{kit}
 use Rattle.kit_ops.specs.declared.attributes.IntegerAttr.{IntegerAttr}
 use Rattle.kit_views.proofs.Uses.{and_left, and_right}
-use Rattle.kit_ruled_views.specs.Ruled.{KitTree}
 use Rattle.kit_ruled_views.proofs.HandleSameness.{blocks_apart}
 use Rattle.kit_ruled_passes.specs.Scopes.{Part, KitLabel, IsResultHere, IsOfBlock, IsNone}
 use Rattle.kit_ruled_passes.proofs.OrderedScopes.{AreBare, Ordered}

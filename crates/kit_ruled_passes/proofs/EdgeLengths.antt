@@ -11,6 +11,8 @@ use Rattle.ir_program.specs.declared.handles.BasicBlock.{BasicBlock}
 use Rattle.ir_program.specs.declared.handles.Ptr.{Ptr}
 use Rattle.ir_program.specs.declared.handles.Value.{Value}
 use Rattle.ir_base.specs.declared.types.TypeHandle.{TypeHandle}
+use Rattle.kit.specs.Context.{KitTree}
+use Rattle.kit_checks.specs.KitWorld.{kit_world}
 use Rattle.kit_ops.specs.declared.kinds.KitOp.{KitOp}
 use Rattle.kit_ops.specs.declared.kinds.KitOp.TheVariants as ops
 use Rattle.kit_ops.specs.declared.types.KitType.{KitType}
@@ -19,7 +21,6 @@ use Rattle.kit_ops.specs.Table.{has_interface}
 use Rattle.kit.specs.Meaning.{forwards_of, first_size, range}
 use Rattle.kit_checks.specs.Rules.{FitsKind}
 use Rattle.kit_checks.specs.Words.{along_edge, segment_sizes, sizes_or_none, is_branch}
-use Rattle.kit_ruled_views.specs.Ruled.{KitTree, kit_world}
 use Rattle.kit_ruled_views.proofs.OperationViews.{same_sizes}
 
 range_length : (s n : ℕ) → length (range s n) ≡ n

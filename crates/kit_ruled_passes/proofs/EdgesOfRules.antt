@@ -11,6 +11,7 @@ use Rattle.ir_trees.specs.Stands.{by_handle, StandsFor}
 use Rattle.ir_trees.specs.Trees.{Sort, Operations, Blocks, Regions, end, operation, block, region}
 use Rattle.ir_trees.proofs.Members.{has_at}
 use Rattle.ir_trees.proofs.OneTree.{one_tree}
+use Rattle.kit.specs.Context.{KitContext, KitTree}
 use Rattle.opt_inside.proofs.Around.{HasLists}
 use Rattle.opt_trees.specs.Occurrences.{Has}
 use Rattle.opt_trees.proofs.Lists.{some_same, none_some}
@@ -22,8 +23,7 @@ use Rattle.kit_checks.specs.Sites.{Site, Around, operation_list, block_list, reg
 use Rattle.kit_checks.specs.World.{World, world_of}
 use Rattle.kit_checks.proofs.Down.{located, step_to}
 use Rattle.kit_checks.proofs.Upward.{is_place}
-use Rattle.kit_ruled_views.specs.Functions.{KitContext, KeepsRules}
-use Rattle.kit_ruled_views.specs.Ruled.{KitTree}
+use Rattle.kit_ruled_views.specs.Functions.{KeepsRules}
 use Rattle.kit_ruled_views.proofs.FunctionSites.{KitBody, outer_if, inner_place}
 use Rattle.kit_ruled_views.proofs.InsidePlaces.{path_down}
 use Rattle.kit_ruled_passes.specs.Edges.{IsNoBlock, own_blocks, EdgesScoped, HasScopedEdges}

@@ -7,6 +7,7 @@ use Rattle.ir_program.specs.declared.handles.Operation.{Operation}
 use Rattle.ir_program.specs.declared.handles.Ptr.{Ptr}
 use Rattle.ir_trees.specs.Renames.{names_of}
 use Rattle.ir_trees.specs.Stands.{ProgramHead, ProgramLabel}
+use Rattle.kit.specs.Context.{KitProgram}
 use Rattle.opt_inside.specs.Edges.{FitsEdgesBelow}
 use Rattle.opt_inside.specs.Occurring.{IsOccurrence, IsBlockOccurrence}
 use Rattle.opt_inside.proofs.Among.{arguments_are}
@@ -15,7 +16,6 @@ use Rattle.opt_trees.specs.Occurrences.{cons_if, picks}
 use Rattle.kit.specs.Lawful.{kit_lawful}
 use Rattle.kit.specs.Meaning.{KitOperation, KitBlock, kit}
 use Rattle.kit_views.proofs.Forwarded.{get_there}
-use Rattle.kit_ruled_passes.specs.Scopes.{KitProgram}
 use Rattle.kit_ruled_passes.proofs.ScopeUses.{KitOccurrence, KitBlockOccurrence}
 
 picks_length : {X : Type 0} (xs : List X) (is : List ℕ)

@@ -9,11 +9,11 @@ use Rattle.ir_program.specs.declared.handles.Value.{Value}
 use Rattle.ir_trees.specs.Renames.{Maps, names_of, rename, rename_label}
 use Rattle.ir_trees.specs.Stands.{by_handle, ProgramHead}
 use Rattle.ir_trees.specs.Trees.{Sort, Operations, Blocks, Regions, end, operation, block, region}
+use Rattle.kit.specs.Context.{KitTree}
 use Rattle.opt_trees.specs.Occurrences.{Has, at_root}
 use Rattle.opt_trees.specs.Simplify.{StartingRegions, IsCut, is_bare, along_edge, decide_head, decide, keep, entry}
 use Rattle.kit.specs.Meaning.{KitOperation, KitBlock, kit}
 use Rattle.kit_ops.specs.declared.attributes.IntegerAttr.{IntegerAttr}
-use Rattle.kit_ruled_views.specs.Ruled.{KitTree}
 use Rattle.kit_ruled_passes.specs.Scopes.{Part, KitLabel}
 use Rattle.kit_ruled_passes.proofs.Scopes.{IsByOp, IsHome, Homed, AtEntry}
 use Rattle.kit_ruled_passes.proofs.ScopesAfter.{EntryStays, EntriesStay, entries_stay}

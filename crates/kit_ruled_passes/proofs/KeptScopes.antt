@@ -13,6 +13,7 @@ use Rattle.ir_trees.specs.Renames.{rename_root}
 use Rattle.ir_trees.specs.Searched.{Lists}
 use Rattle.ir_trees.specs.Stands.{by_handle, StandsFor}
 use Rattle.ir_trees.proofs.OneTree.{one_tree}
+use Rattle.kit.specs.Context.{KitProgram, KitTree}
 use Rattle.opt_decide.specs.Phase.{DecidesBranches}
 use Rattle.opt_decide.proofs.SaidAround.{HasValues as Said, around_root, says_known}
 use Rattle.opt_inside.specs.Around.{CanTellTaken, IsTakenOutside}
@@ -25,8 +26,7 @@ use Rattle.opt_trees.specs.Simplify.{StartingRegions, OfOperations, IsCut, Loses
 use Rattle.kit.specs.Meaning.{KitOperation, kit}
 use Rattle.kit_ops.specs.declared.attributes.IntegerAttr.{IntegerAttr}
 use Rattle.kit_views.proofs.Lists.{has_get}
-use Rattle.kit_ruled_views.specs.Ruled.{KitTree}
-use Rattle.kit_ruled_passes.specs.Scopes.{KitProgram, IsNone, Scoped, IsInScope, IsUntaken}
+use Rattle.kit_ruled_passes.specs.Scopes.{IsNone, Scoped, IsInScope, IsUntaken}
 use Rattle.kit_ruled_passes.proofs.ScopesAfter.{scoped_decided, scoped_renamed, scoped_kept, entries_stay}
 use Rattle.kit_ruled_passes.proofs.ScopesAfter.{defined_decided, defined_renamed}
 use Rattle.kit_ruled_passes.proofs.ScopeUses.{operand_defined}

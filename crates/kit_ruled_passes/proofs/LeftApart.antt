@@ -17,6 +17,7 @@ use Rattle.ir_program.specs.declared.handles.Value.{Value}
 use Rattle.ir_program.proofs.defined.Standing.{seen-definer}
 use Rattle.ir_trees.specs.Stands.{StandsFor}
 use Rattle.ir_trees.proofs.Members.{at_has, has_at}
+use Rattle.kit.specs.Context.{KitContext, KitProgram, KitTree}
 use Rattle.opt_inside.specs.Around.{IsTakenOutside}
 use Rattle.opt_inside.specs.Numbered.{values_in}
 use Rattle.opt_inside.specs.Occurring.{IsBelowRoot, IsBlockBelow, IsDefinedBelow}
@@ -25,10 +26,8 @@ use Rattle.opt_inside.proofs.Among.{results_are, arguments_are}
 use Rattle.opt_inside.proofs.Around.{HasLists, not_root}
 use Rattle.opt_trees.specs.Occurrences.{Has}
 use Rattle.kit.specs.Meaning.{KitOperation, KitBlock}
-use Rattle.kit_ruled_views.specs.Functions.{KitContext, IsSelfContained}
-use Rattle.kit_ruled_views.specs.Ruled.{KitTree}
+use Rattle.kit_ruled_views.specs.Functions.{IsSelfContained}
 use Rattle.kit_ruled_passes.specs.Entering.{IsEnteredNowhere}
-use Rattle.kit_ruled_passes.specs.Scopes.{KitProgram}
 use Rattle.kit_ruled_passes.proofs.InTrees.{HasOperation, operation_held, operation_inside}
 
 -- something in a row stands in what is there

@@ -17,10 +17,9 @@ use Rattle.ir_trees.specs.Renames.{names_of, values_at as head_values, values_in
 use Rattle.ir_trees.specs.Searched.{heads_in, heads_of}
 use Rattle.ir_trees.specs.Stands.{by_handle, in_program, head_of, defined_by, Handles, ProgramHead, AreTree, no_operations, no_blocks, no_regions, first_operation, first_block, first_region, StandsFor}
 use Rattle.ir_trees.specs.Trees.{Sort, Tree}
+use Rattle.kit.specs.Context.{KitProgram, KitTree}
 use Rattle.opt_trees.specs.Occurrences.{Has}
 use Rattle.kit.specs.Meaning.{KitOperation, KitBlock}
-use Rattle.kit_ruled_passes.specs.Scopes.{KitProgram}
-use Rattle.kit_ruled_views.specs.Ruled.{KitTree}
 
 -- what the core knows of values
 pub record KnowsValues (c : KitProgram) : Type 0 where

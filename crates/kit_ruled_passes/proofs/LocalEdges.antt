@@ -17,6 +17,7 @@ use Rattle.ir_program.specs.declared.handles.Ptr.{Ptr}
 use Rattle.ir_program.specs.declared.handles.Region.{Region}
 use Rattle.ir_trees.specs.Searched.{Lists}
 use Rattle.ir_trees.specs.Stands.{StandsFor, ProgramHead, head_of}
+use Rattle.kit.specs.Context.{KitContext, KitTree}
 use Rattle.opt_inside.specs.facts.ByNumber.{LeadsBelow}
 use Rattle.opt_inside.specs.Edges.{FitsEdgesBelow, HasLocalEdgesBelow}
 use Rattle.opt_inside.specs.Occurring.{IsBelowRoot, IsBlockBelow}
@@ -28,8 +29,7 @@ use Rattle.kit_checks.specs.Words as words
 use Rattle.kit_checks.specs.World.{world_of}
 use Rattle.kit_checks.proofs.Down.{block_listed}
 use Rattle.kit_checks.proofs.Trees.{argument_types, operation_count}
-use Rattle.kit_ruled_views.specs.Functions.{KitContext, KeepsRules}
-use Rattle.kit_ruled_views.specs.Ruled.{KitTree}
+use Rattle.kit_ruled_views.specs.Functions.{KeepsRules}
 use Rattle.kit_ruled_views.proofs.SmallLists.{as_many}
 use Rattle.kit_ruled_passes.specs.Entering.{IsEnteredNowhere}
 use Rattle.kit_ruled_passes.proofs.EdgeLengths.{as_many_handed, hands_on}

@@ -6,12 +6,12 @@ use Rattle.ir_program.specs.declared.handles.Ptr.{Ptr}
 use Rattle.ir_program.specs.declared.handles.Value.{Value}
 use Rattle.ir_trees.specs.Renames.{names_of}
 use Rattle.ir_trees.specs.Stands.{by_handle}
+use Rattle.kit.specs.Context.{KitTree}
 use Rattle.opt_trees.specs.Facts.{forwarded}
 use Rattle.opt_trees.specs.Occurrences.{Has, at_root}
 use Rattle.opt_trees.specs.Simplify.{StartingRegions, IsReached, entry, further, IsGiven, Chases, goes, goes_by, ComesBack}
 use Rattle.kit.specs.Meaning.{kit}
 use Rattle.kit_views.proofs.Lists.{has_get}
-use Rattle.kit_ruled_views.specs.Ruled.{KitTree}
 use Rattle.kit_ruled_passes.specs.Scopes.{IsNone, Scoped}
 use Rattle.kit_ruled_passes.proofs.Scopes.{Homed, IsHome, AtEntry}
 use Rattle.kit_ruled_passes.proofs.ScopesAfter.{picks_has}

@@ -18,6 +18,7 @@ use Rattle.ir_trees.specs.Renames.{rename_root}
 use Rattle.ir_trees.specs.Searched.{Lists}
 use Rattle.ir_trees.specs.Stands.{by_handle, StandsFor, head_of}
 use Rattle.ir_trees.specs.Trees.{Regions}
+use Rattle.kit.specs.Context.{KitProgram, KitTree}
 use Rattle.opt_decide.specs.Phase.{DecidesBranches}
 use Rattle.opt_dialect.specs.declared.status.OptError.TheVariants.{LiveUse}
 use Rattle.opt_inside.specs.Around.{IsTakenOutside, SaysAround, folded_alone}
@@ -33,9 +34,8 @@ use Rattle.opt_trees.specs.Simplify.{OfOperations, all_of, decided, decide}
 use Rattle.ir_opts.specs.Simplified.{StopsAt, while_deciding, while_removing, loses_uses, while_joining, comes_back}
 use Rattle.kit.specs.Meaning.{KitOperation, KitBlock, kit}
 use Rattle.kit_ops.specs.declared.attributes.IntegerAttr.{IntegerAttr}
-use Rattle.kit_ruled_views.specs.Ruled.{KitTree}
 use Rattle.kit_ruled_passes.specs.Phases.{DecidesBranchesBelow, RemovesBlocksBelow}
-use Rattle.kit_ruled_passes.specs.Scopes.{KitProgram, IsInScope, IsUntaken}
+use Rattle.kit_ruled_passes.specs.Scopes.{IsInScope, IsUntaken}
 use Rattle.kit_ruled_passes.proofs.Homes.{IsFirst, homed_regions}
 use Rattle.kit_ruled_passes.proofs.KeptScopes.{cut_scoped, none_lost}
 use Rattle.kit_ruled_passes.proofs.NoCircles.{no_circle}

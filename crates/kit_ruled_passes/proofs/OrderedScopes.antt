@@ -8,6 +8,7 @@ use Rattle.ir_program.specs.declared.handles.Value.{Value}
 use Rattle.ir_trees.specs.Renames.{names_of}
 use Rattle.ir_trees.specs.Trees.{Sort, Operations, Blocks, Regions, end, operation, block, region}
 use Rattle.ir_trees.proofs.Members.{at_has, has_at, has_back, has_either, has_front}
+use Rattle.kit.specs.Context.{KitContext, KitTree}
 use Rattle.opt_trees.specs.Occurrences.{Has}
 use Rattle.kit.specs.Meaning.{KitOperation, KitBlock}
 use Rattle.kit_checks.specs.declared.rule.Rule.{Rule}
@@ -18,8 +19,6 @@ use Rattle.kit_checks.specs.Words as words
 use Rattle.kit_checks.specs.Words.{results_of, values_before, values_if, first_body, visible}
 use Rattle.kit_checks.specs.World.{world_of}
 use Rattle.kit_checks.proofs.Down.{step_to}
-use Rattle.kit_ruled_views.specs.Functions.{KitContext}
-use Rattle.kit_ruled_views.specs.Ruled.{KitTree}
 use Rattle.kit_ruled_views.proofs.FunctionSites.{KitBody, outer_if, inner_place, no_region}
 use Rattle.kit_ruled_passes.specs.Scopes.{Part, IsOfBlock, IsOfEntry, IsNone}
 use Rattle.kit_ruled_passes.proofs.RuledSites.{has_regions}

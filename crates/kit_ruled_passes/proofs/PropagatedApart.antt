@@ -11,6 +11,7 @@ use Rattle.ir_program.proofs.made.Frames.{same_or_not}
 use Rattle.ir_trees.specs.Renames.{names_of, rename_root}
 use Rattle.ir_trees.specs.Stands.{by_handle, StandsFor, ProgramHead, ProgramLabel}
 use Rattle.ir_trees.proofs.Members.{has_made}
+use Rattle.kit.specs.Context.{KitProgram, KitTree}
 use Rattle.opt_inside.specs.Occurring.{IsBelowRoot, IsBlockBelow, IsDefinedBelow}
 use Rattle.opt_inside.proofs.Values.{defined}
 use Rattle.opt_inside.proofs.Walked.{sound, blocks_sound}
@@ -20,8 +21,6 @@ use Rattle.opt_trees.specs.Occurrences.{Has}
 use Rattle.opt_trees.specs.Sccp.{Old, New, Gets, IsResult, IsArgument, put, put_root, used_as}
 use Rattle.kit.specs.Meaning.{KitOperation, KitBlock, kit}
 use Rattle.kit_ops.specs.declared.attributes.IntegerAttr.{IntegerAttr}
-use Rattle.kit_ruled_views.specs.Ruled.{KitTree}
-use Rattle.kit_ruled_passes.specs.Scopes.{KitProgram}
 use Rattle.kit_ruled_passes.proofs.ConstantsPut.{put_from, put_block, put_stays, put_new}
 use Rattle.kit_ruled_passes.proofs.InTrees.{HasOperation, has_or_not, operation_reached, block_reached, operation_inside}
 use Rattle.kit_ruled_passes.proofs.InTrees.{block_inside, same_some}

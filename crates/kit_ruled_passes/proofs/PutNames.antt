@@ -11,6 +11,7 @@ use Rattle.ir_trees.specs.Renames.{names_of, rename_defined, values_at, values_i
 use Rattle.ir_trees.specs.Searched.{Lists, heads_in, heads_of, operation_names}
 use Rattle.ir_trees.specs.Stands.{by_handle, in_program, ProgramHead, StandsFor}
 use Rattle.ir_trees.specs.Trees.{Defined, Head, Sort, Operations, Regions, Tree, end, operation, block, region}
+use Rattle.kit.specs.Context.{KitProgram, KitTree}
 use Rattle.opt_trees.specs.Occurrences.{Has}
 use Rattle.opt_trees.specs.Sccp.{Name, Old, New, fresh, used_as, constant_before, put_one, put_results, put_arguments, old_head, put, put_root}
 use Rattle.opt_sccp.specs.Puts.{PutsConstants}
@@ -19,8 +20,6 @@ use Rattle.opt_dialect.specs.declared.status.IRStatus.{IRStatus}
 use Rattle.kit.specs.Meaning.{KitOperation, KitBlock, kit}
 use Rattle.kit_ops.specs.declared.attributes.IntegerAttr.{IntegerAttr}
 use Rattle.kit_ruled_views.specs.TreePasses.{IsSccpNamed}
-use Rattle.kit_ruled_passes.specs.Scopes.{KitProgram}
-use Rattle.kit_ruled_views.specs.Ruled.{KitTree}
 use Rattle.kit_ruled_passes.proofs.LiveValues.{KnowsValues, IsOfNoneGone, IsHere, has_left, has_right, has_parts, all_live, all_here}
 
 abbrev Part : Sort → Type 0

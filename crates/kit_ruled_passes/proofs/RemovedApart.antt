@@ -7,13 +7,12 @@ use Rattle.ir_program.specs.declared.handles.IRNode.TheVariants.{Operation as Op
 use Rattle.ir_program.specs.declared.handles.Operation.{Operation}
 use Rattle.ir_program.specs.declared.handles.Ptr.{Ptr}
 use Rattle.ir_trees.specs.Stands.{StandsFor}
+use Rattle.kit.specs.Context.{KitProgram, KitTree}
 use Rattle.opt_dce.specs.Thins.{MakesDce}
 use Rattle.opt_inside.specs.Occurring.{IsBelowRoot, IsBlockBelow}
 use Rattle.opt_trees.specs.Dce.{thin}
 use Rattle.opt_trees.specs.Occurrences.{Has}
 use Rattle.kit.specs.Meaning.{KitOperation, kit}
-use Rattle.kit_ruled_views.specs.Ruled.{KitTree}
-use Rattle.kit_ruled_passes.specs.Scopes.{KitProgram}
 use Rattle.kit_ruled_passes.proofs.InTrees.{operation_reached, block_reached, block_inside, same_some}
 use Rattle.kit_ruled_passes.proofs.LeftApart.{IsKnownBefore, StoodOutside, LeavesApart, below_root, something}
 use Rattle.kit_ruled_passes.proofs.PassIncludes.{thinned_less}

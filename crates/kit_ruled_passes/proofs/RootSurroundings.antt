@@ -17,6 +17,7 @@ use Rattle.ir_trees.specs.Stands.{by_handle, in_program, ProgramHead, ProgramLab
 use Rattle.ir_trees.specs.Trees.{Defined}
 use Rattle.ir_trees.proofs.Members.{has_at}
 use Rattle.ir_trees.proofs.OneTree.{one_tree}
+use Rattle.kit.specs.Context.{KitContext, KitTree}
 use Rattle.opt_trees.specs.Dce.{TreeSurroundings}
 use Rattle.opt_trees.specs.Occurrences.{Has, Occurrence, BlockOccurrence, occurrences_of, block_occurrences_of}
 use Rattle.opt_trees.specs.Occurrences.{types_of}
@@ -39,8 +40,7 @@ use Rattle.kit_checks.proofs.Down.{located}
 use Rattle.kit_checks.proofs.Upward.{is_place}
 use Rattle.kit_views.specs.FlatBranches.{IsConstantOf, KnowsConstants}
 use Rattle.kit_views.specs.Laws.{NothingPinned}
-use Rattle.kit_ruled_views.specs.Functions.{KitContext, KeepsRules, IsSelfContained}
-use Rattle.kit_ruled_views.specs.Ruled.{KitTree}
+use Rattle.kit_ruled_views.specs.Functions.{KeepsRules, IsSelfContained}
 use Rattle.kit_ruled_views.proofs.FunctionParts.{Maker, result, argument, maker_of}
 use Rattle.kit_ruled_views.proofs.InsidePlaces.{path_down}
 use Rattle.kit_ruled_views.proofs.KnownConstants.{alone_as, alone_known, unknown}

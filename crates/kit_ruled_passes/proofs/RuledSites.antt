@@ -13,6 +13,7 @@ use Rattle.ir_program.specs.declared.handles.Ptr.{Ptr}
 use Rattle.ir_trees.specs.Searched.{Lists}
 use Rattle.ir_trees.specs.Stands.{StandsFor}
 use Rattle.ir_trees.proofs.OneTree.{one_tree}
+use Rattle.kit.specs.Context.{KitContext, KitTree}
 use Rattle.opt_inside.proofs.Around.{HasLists, around_operation, around_block, around_region}
 use Rattle.kit.specs.Meaning.{KitOperation, KitBlock}
 use Rattle.kit_ops.specs.declared.kinds.KitOp.{KitOp}
@@ -29,8 +30,7 @@ use Rattle.kit_checks.specs.World.{world_of}
 use Rattle.kit_checks.proofs.Down.{located}
 use Rattle.kit_checks.proofs.Trees.{region_count, successors_are}
 use Rattle.kit_checks.proofs.Upward.{is_place}
-use Rattle.kit_ruled_views.specs.Functions.{KitContext, KeepsRules}
-use Rattle.kit_ruled_views.specs.Ruled.{KitTree}
+use Rattle.kit_ruled_views.specs.Functions.{KeepsRules}
 use Rattle.kit_ruled_views.proofs.InsidePlaces.{path_down}
 
 -- what is at the place of an operation

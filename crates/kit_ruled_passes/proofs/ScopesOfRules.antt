@@ -6,6 +6,7 @@ use Rattle.ir_program.specs.declared.handles.Value.{Value}
 use Rattle.ir_trees.specs.Renames.{names_of}
 use Rattle.ir_trees.specs.Trees.{Sort, Operations, Blocks, Regions, end, operation, block, region}
 use Rattle.ir_trees.proofs.Members.{at_has, has_at, has_either}
+use Rattle.kit.specs.Context.{KitTree}
 use Rattle.opt_trees.specs.Occurrences.{Has}
 use Rattle.kit.specs.Meaning.{KitOperation, KitBlock}
 use Rattle.kit_checks.specs.declared.rule.Rule.TheVariants as rule
@@ -14,7 +15,6 @@ use Rattle.kit_checks.specs.Sites.{Site, Around, operation_list, block_list, reg
 use Rattle.kit_checks.specs.Words.{results_of, values_before, values_if, first_body, visible}
 use Rattle.kit_checks.specs.World.{World}
 use Rattle.kit_checks.proofs.Down.{step_to}
-use Rattle.kit_ruled_views.specs.Ruled.{KitTree}
 use Rattle.kit_ruled_views.proofs.FunctionSites.{KitBody, outer_if, inner_place}
 use Rattle.kit_ruled_passes.specs.Scopes.{Part, IsResultHere, IsOfBlock, IsOfEntry, IsNone, Scoped}
 

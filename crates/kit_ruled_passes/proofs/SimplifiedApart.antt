@@ -10,6 +10,7 @@ use Rattle.ir_program.specs.declared.handles.Value.{Value}
 use Rattle.ir_trees.specs.Renames.{names_of, rename_root}
 use Rattle.ir_trees.specs.Stands.{by_handle, StandsFor}
 use Rattle.ir_trees.proofs.Members.{has_made}
+use Rattle.kit.specs.Context.{KitProgram, KitTree}
 use Rattle.opt_decide.specs.Phase.{maps_of}
 use Rattle.opt_inside.specs.Occurring.{IsBelowRoot, IsBlockBelow, IsDefinedBelow}
 use Rattle.opt_inside.proofs.Values.{defined}
@@ -19,8 +20,6 @@ use Rattle.opt_trees.proofs.Defined.{argument_defined}
 use Rattle.ir_opts.specs.SimplifiedTree.{SimplifiesTree}
 use Rattle.kit.specs.Meaning.{KitOperation, kit}
 use Rattle.kit_views.proofs.Lists.{has_get}
-use Rattle.kit_ruled_views.specs.Ruled.{KitTree}
-use Rattle.kit_ruled_passes.specs.Scopes.{KitProgram}
 use Rattle.kit_ruled_passes.proofs.InTrees.{Includes, includes_both, operation_reached, block_reached, operation_held}
 use Rattle.kit_ruled_passes.proofs.InTrees.{block_inside, same_some}
 use Rattle.kit_ruled_passes.proofs.LeftApart.{IsKnownBefore, StoodOutside, LeavesApart, below_root, something}

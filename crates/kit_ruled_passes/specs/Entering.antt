@@ -7,8 +7,8 @@ use Rattle.ir_program.specs.declared.handles.IRNode.TheVariants.{Operation as Op
 use Rattle.ir_program.specs.declared.handles.Operation.{Operation}
 use Rattle.ir_program.specs.declared.handles.Ptr.{Ptr}
 use Rattle.ir_trees.specs.Searched.{Lists}
+use Rattle.kit.specs.Context.{KitContext}
 use Rattle.opt_inside.specs.Occurring.{IsBlockBelow}
-use Rattle.kit_ruled_views.specs.Functions.{KitContext}
 
 -- some operation that isn't inside the root leads to the block
 abbrev pub IsEnteredOutside : {O B : Type 0} → Program O B → Ptr Operation → Ptr BasicBlock → Type 0

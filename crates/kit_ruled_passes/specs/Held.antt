@@ -4,13 +4,13 @@ use Rattle.ir_program.specs.Program.{operation_at}
 use Rattle.ir_program.specs.declared.handles.Operation.{Operation}
 use Rattle.ir_program.specs.declared.handles.Ptr.{Ptr}
 use Rattle.ir_trees.specs.Stands.{by_handle, StandsFor}
+use Rattle.kit.specs.Context.{KitContext, KitTree}
 use Rattle.opt_inside.specs.Around.{SaysAround}
 use Rattle.opt_trees.specs.Dce.{TreeSurroundings}
 use Rattle.kit.specs.Meaning.{kit}
 use Rattle.kit_ops.specs.declared.attributes.IntegerAttr.{IntegerAttr}
 use Rattle.kit_ruled_passes.specs.Entering.{IsEnteredNowhere}
-use Rattle.kit_ruled_views.specs.Functions.{KitContext, IsSelfContained, KeepsRules}
-use Rattle.kit_ruled_views.specs.Ruled.{KitTree}
+use Rattle.kit_ruled_views.specs.Functions.{IsSelfContained, KeepsRules}
 
 -- an operation of a context stands for a module that keeps the rules, and no operation outside it leads to a block in it
 -- or takes a value of it

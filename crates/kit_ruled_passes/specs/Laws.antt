@@ -3,6 +3,7 @@ use Rattle.ir_program.specs.declared.handles.Operation.{Operation}
 use Rattle.ir_program.specs.declared.handles.Ptr.{Ptr}
 use Rattle.ir_program.specs.declared.handles.Value.{Value}
 use Rattle.ir_trees.specs.Stands.{by_handle, StandsFor}
+use Rattle.kit.specs.Context.{KitProgram, KitTree}
 use Rattle.opt_trees.specs.Dce.{TreeSurroundings}
 use Rattle.opt_trees.specs.Occurrences.{Has, defined_in}
 use Rattle.opt_dialect.specs.declared.status.IRStatus.{IRStatus}
@@ -12,9 +13,7 @@ use Rattle.ir_opts.specs.SimplifiedTree.{SimplifiesTree}
 use Rattle.kit.specs.Meaning.{kit}
 use Rattle.kit_ops.specs.declared.attributes.IntegerAttr.{IntegerAttr}
 use Rattle.kit_views.specs.FlatBranches.{KnowsConstants}
-use Rattle.kit_ruled_views.specs.Ruled.{KitTree}
 use Rattle.kit_ruled_views.specs.TreePasses.{IsDceAlone, IsSimplifiedAlone}
-use Rattle.kit_ruled_passes.specs.Scopes.{KitProgram}
 
 -- where the operation stood for a tree, it stands for one now of which this holds
 abbrev pub LeavesTree : KitProgram → KitProgram → Ptr Operation → (KitTree → KitTree → Type 0) → Type 0

@@ -2,12 +2,11 @@
 use Rattle.ir_program.specs.declared.handles.Operation.{Operation}
 use Rattle.ir_program.specs.declared.handles.Ptr.{Ptr}
 use Rattle.ir_trees.specs.Stands.{StandsFor}
+use Rattle.kit.specs.Context.{KitProgram, KitTree}
 use Rattle.opt_decide.specs.Phase.{DecidesBranches}
 use Rattle.opt_simplify.specs.Phases.{RemovesBlocks}
 use Rattle.opt_trees.specs.Simplify.{all_of}
 use Rattle.kit.specs.Meaning.{kit}
-use Rattle.kit_ruled_views.specs.Ruled.{KitTree}
-use Rattle.kit_ruled_passes.specs.Scopes.{KitProgram}
 
 -- the branches that their operands decide are unconditional ones
 abbrev pub DecidesBranchesBelow : KitProgram → KitProgram → Ptr Operation → Type 0

@@ -1,17 +1,16 @@
 -- Which values operations take, read off the tree itself.
 use Rattle.std.specs.Prelude.{◌≡◌, ◌⊎◌, []}
-use Rattle.ir_program.specs.Program.{Program}
 use Rattle.ir_program.specs.declared.handles.Operation.{Operation}
 use Rattle.ir_program.specs.declared.handles.Ptr.{Ptr}
 use Rattle.ir_program.specs.declared.handles.Value.{Value}
 use Rattle.ir_trees.specs.Renames.{names_of}
 use Rattle.ir_trees.specs.Stands.{ProgramLabel, StandsFor}
 use Rattle.ir_trees.specs.Trees.{Sort, Operations, Blocks, end, operation, block, region}
+use Rattle.kit.specs.Context.{KitProgram, KitTree}
 use Rattle.opt_inside.specs.Around.{IsTakenOutside}
 use Rattle.opt_trees.specs.Occurrences.{Has, defined_in}
 use Rattle.kit.specs.Meaning.{KitOperation, KitBlock}
 use Rattle.kit_checks.specs.Sites.{Listed}
-use Rattle.kit_ruled_views.specs.Ruled.{KitTree}
 
 -- parts of trees of `kit`
 abbrev pub Part : Sort → Type 0
@@ -43,10 +42,6 @@ Scoped end P = Unit {0}
 Scoped (operation h rs rest) P = ((x : Value) → Has x h.operands → P x) × Scoped rs IsNone × Scoped rest P
 Scoped (block l os rest) P = Scoped os (λ x. IsOfBlock l os x ⊎ P x) × Scoped rest P
 Scoped (region bs rest) P = Scoped bs (IsOfEntry bs) × Scoped rest P
-
--- a program of `kit`
-abbrev pub KitProgram : Type 0
-KitProgram = Program KitOperation KitBlock
 
 -- each operation inside the root takes values of its own block and of the entry block of its region alone, and the root
 -- takes none

@@ -2,9 +2,10 @@
 ghost use Rattle.std.specs.Prelude.{IsSome};
 ghost use Rattle.ir_opts.specs.SimplifiedTree.{SimplifiesTree};
 ghost use Rattle.ir_program.specs.Program.{operation_at};
+ghost use Rattle.kit.specs.Context.{KitContext};
 ghost use Rattle.kit.specs.Meaning.{kit};
 ghost use Rattle.kit_ruled_passes.specs.Entering.{IsEnteredNowhere};
-ghost use Rattle.kit_ruled_views.specs.Functions.{IsSelfContained, KitContext};
+ghost use Rattle.kit_ruled_views.specs.Functions.{IsSelfContained};
 ghost use Rattle.opt_dce.specs.Thins.{IsOutcome};
 ghost use Rattle.opt_dialect.specs.declared.status.IRStatus.{IRStatus};
 ghost use Rattle.opt_inside.specs.Occurring.{OfItsTree};

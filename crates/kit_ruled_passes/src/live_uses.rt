@@ -1,8 +1,8 @@
 //! What simplification of control flow never answers.
 ghost use Rattle.ir_opts.specs.Simplified.{StopsAt};
+ghost use Rattle.kit.specs.Context.{KitProgram};
 ghost use Rattle.kit.specs.Meaning.{kit};
 ghost use Rattle.kit_ruled_passes.specs.Held.{HoldsModule};
-ghost use Rattle.kit_ruled_passes.specs.Scopes.{KitProgram};
 ghost use Rattle.opt_dialect.specs.declared.status.OptError.TheVariants.{LiveUse};
 
 use crate::refusals::know_scopes;

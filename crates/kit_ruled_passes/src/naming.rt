@@ -1,11 +1,11 @@
 //! Names of the constants that are put in.
 ghost use Rattle.std.specs.Prelude.{IsSome};
 ghost use Rattle.ir_program.specs.Program.{operation_at};
+ghost use Rattle.kit.specs.Context.{KitProgram};
 ghost use Rattle.opt_dialect.specs.declared.status.IRStatus.{IRStatus};
 ghost use Rattle.opt_sccp.specs.Sccp.{IsPropagated};
 ghost use Rattle.kit.specs.Meaning.{kit};
 ghost use Rattle.kit_ruled_views.specs.TreePasses.{IsSccpNamed};
-ghost use Rattle.kit_ruled_passes.specs.Scopes.{KitProgram};
 ghost use Rattle.kit_ruled_passes.specs.Laws.{LeavesTree};
 
 use ir_context::Context;

@@ -1,9 +1,10 @@
 //! What the optimisations never answer.
 ghost use Rattle.std.specs.Prelude.{IsSome};
 ghost use Rattle.ir_program.specs.Program.{operation_at};
+ghost use Rattle.kit.specs.Context.{KitProgram};
 ghost use Rattle.kit.specs.Meaning.{kit};
 ghost use Rattle.kit_ruled_passes.specs.Phases.{DecidesBranchesBelow, RemovesBlocksBelow};
-ghost use Rattle.kit_ruled_passes.specs.Scopes.{IsInScope, IsUntaken, KitProgram};
+ghost use Rattle.kit_ruled_passes.specs.Scopes.{IsInScope, IsUntaken};
 ghost use Rattle.kit_ruled_views.specs.Functions.{IsSelfContained, KeepsRules};
 ghost use Rattle.ir_opts.specs.joining.Answers.{HasCircle};
 ghost use Rattle.opt_inside.specs.declared.reach.starts.Start.TheVariants as start;

@@ -20,6 +20,8 @@ use Rattle.ir_trees.specs.Stands.{StandsFor, ProgramHead, ProgramLabel, defined_
 use Rattle.ir_trees.specs.Trees.{Defined}
 use Rattle.ir_trees.proofs.Members.{has_at, has_made}
 use Rattle.ir_trees.proofs.OneTree.{one_tree}
+use Rattle.kit.specs.Context.{KitContext, KitTree}
+use Rattle.kit_checks.specs.KitWorld.{HasDeclaredTypes}
 use Rattle.opt_trees.specs.Occurrences.{Has, defined_in}
 use Rattle.opt_inside.proofs.Added.{HasValues}
 use Rattle.opt_inside.proofs.Among.{numbers_among}
@@ -29,8 +31,8 @@ use Rattle.opt_inside.proofs.Walked.{sound, blocks_sound}
 use Rattle.kit.specs.Meaning.{KitOperation, KitBlock}
 use Rattle.kit_checks.proofs.Down.{located}
 use Rattle.kit_checks.proofs.Upward.{is_place}
-use Rattle.kit_ruled_views.specs.Functions.{KitContext, KeepsRules, IsTreeOf, HasFlatView, HasTypes}
-use Rattle.kit_ruled_views.specs.Ruled.{KitTree, IsRuledFunction, HasOwnNames, HaveTypesIn}
+use Rattle.kit_ruled_views.specs.Functions.{KeepsRules, IsTreeOf, HasFlatView, HasTypes}
+use Rattle.kit_ruled_views.specs.Ruled.{IsRuledFunction, HasOwnNames}
 use Rattle.kit_ruled_views.proofs.FunctionTypes.{typed_function}
 use Rattle.kit_ruled_views.proofs.FunctionViews.{flat_view}
 use Rattle.kit_ruled_views.proofs.InsidePlaces.{path_down}
@@ -102,7 +104,7 @@ module _ (s : KitContext) (root function : Ptr Operation) (known : IsKnown s.pro
     values = own_values;
   }
 
-  pub types_in : HaveTypesIn (type_at s.program) u
+  pub types_in : HasDeclaredTypes (type_at s.program) u
   types_in = record {
     results = λ o ho d hd.
         let i = sound s.program function known.lists u is.tree o ho in

@@ -18,6 +18,7 @@ use Rattle.ir_trees.specs.Searched.{Lists}
 use Rattle.ir_trees.specs.Stands.{by_handle, in_program, ProgramHead, ProgramLabel, defined_by}
 use Rattle.ir_trees.specs.Trees.{Defined}
 use Rattle.ir_trees.proofs.Members.{has_at}
+use Rattle.kit.specs.Context.{KitContext, KitTree}
 use Rattle.opt_trees.specs.Dce.{TreeSurroundings}
 use Rattle.opt_trees.specs.Occurrences.{Has, Occurrence, BlockOccurrence, occurrences_of, block_occurrences_of}
 use Rattle.opt_trees.specs.Occurrences.{types_of}
@@ -41,9 +42,8 @@ use Rattle.kit_checks.specs.World.{world_of}
 use Rattle.kit_checks.proofs.Down.{located}
 use Rattle.kit_checks.proofs.Upward.{is_place}
 use Rattle.kit_views.specs.FlatBranches.{IsConstantOf}
-use Rattle.kit_ruled_views.specs.Functions.{KitContext, KeepsRules, IsTreeOf, IsSelfContained, HasNothingPinned}
+use Rattle.kit_ruled_views.specs.Functions.{KeepsRules, IsTreeOf, IsSelfContained, HasNothingPinned}
 use Rattle.kit_ruled_views.specs.Functions.{HasKnownConstants}
-use Rattle.kit_ruled_views.specs.Ruled.{KitTree}
 use Rattle.kit_ruled_views.proofs.ContextFunctions.{IsKnown, ruled}
 use Rattle.kit_ruled_views.proofs.FunctionParts.{Maker, result, argument, maker_of}
 use Rattle.kit_ruled_views.proofs.FunctionSites.{own_region}

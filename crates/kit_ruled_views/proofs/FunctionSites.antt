@@ -6,6 +6,8 @@ use Rattle.ir_base.specs.declared.types.TypeHandle.{TypeHandle}
 use Rattle.ir_program.specs.declared.handles.Value.{Value}
 use Rattle.ir_trees.specs.Stands.{ProgramTree}
 use Rattle.ir_trees.specs.Trees.{Blocks, Regions, end, region}
+use Rattle.kit.specs.Context.{KitTree}
+use Rattle.kit_checks.specs.KitWorld.{kit_world}
 use Rattle.kit_ops.specs.declared.kinds.KitOp.TheVariants as ops
 use Rattle.kit_ops.specs.declared.types.KitType.{KitType}
 use Rattle.kit.specs.Meaning.{KitOperation, KitBlock}
@@ -16,7 +18,7 @@ use Rattle.kit_checks.specs.Rules.{FitsKind}
 use Rattle.kit_checks.specs.Sites.{Listed, Body, operation_list, block_list, region_list, Around, Site, site_from}
 use Rattle.kit_checks.specs.Sites.{site_at}
 use Rattle.kit_checks.proofs.Down.{step_to, stepped}
-use Rattle.kit_ruled_views.specs.Ruled.{KitTree, kit_world, IsRuledFunction}
+use Rattle.kit_ruled_views.specs.Ruled.{IsRuledFunction}
 
 -- parts of trees of `kit`
 abbrev pub KitBlocks : Type 0

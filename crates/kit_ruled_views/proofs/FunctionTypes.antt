@@ -14,6 +14,8 @@ use Rattle.ir_trees.specs.Searched.{Lists, AreDistinct, block_names}
 use Rattle.ir_trees.specs.Stands.{by_handle, in_program, ProgramHead, ProgramLabel}
 use Rattle.ir_trees.specs.Trees.{Defined, Regions, end, region}
 use Rattle.ir_trees.proofs.Members.{at_has, has_at, has_front, has_back, has_either, has_map}
+use Rattle.kit.specs.Context.{KitTree}
+use Rattle.kit_checks.specs.KitWorld.{HasDeclaredTypes, kit_world}
 use Rattle.opt_trees.specs.Dce.{ForwardsTo}
 use Rattle.opt_trees.specs.Occurrences.{Has, Occurrence, occurrences_of, defined_in}
 use Rattle.kit_ops.specs.declared.attributes.KitAttr.TheVariants as attrs
@@ -33,7 +35,7 @@ use Rattle.kit_checks.specs.Words.{Every, IsValueType, joined, bodies_of, visibl
 use Rattle.kit_checks.specs.Words.{first_body, results_of}
 use Rattle.kit_checks.specs.World.{World}
 use Rattle.kit_views.specs.Typed.{IsMachineInteger, LeadsToBit, TypesFit, IsTyped, number_as, width_at}
-use Rattle.kit_ruled_views.specs.Ruled.{KitTree, kit_world, IsRuledFunction, HaveTypesIn, type_or_first}
+use Rattle.kit_ruled_views.specs.Ruled.{IsRuledFunction, type_or_first}
 use Rattle.kit_ruled_views.proofs.FunctionSites.{KitBlocks, KitBody, KitAround, own_keeps, own_region, inner_around}
 use Rattle.kit_ruled_views.proofs.FunctionSites.{inner_keeps}
 use Rattle.kit_ruled_views.proofs.FunctionParts.{Maker, result, argument, maker_of, OpPlace, NoneInBlocks, op_place}
@@ -209,7 +211,7 @@ module _ (leads : TypeHandle → Option KitType) (typed : Value → Option TypeH
       visible_defined p.number p.index p.body p.block_here x
       (at_has (visible (inner_around leads typed u ruled blocks is p.number p.body p.index)) sees.0 x sees.1)
 
-  module _ (types : HaveTypesIn typed u) where
+  module _ (types : HasDeclaredTypes typed u) where
     value_integer : (v : Value) → Maker u v → IsMachineInteger leads (type_or_first typed v)
     value_integer v (result o ho hv) =
         let p = place o ho in
@@ -294,7 +296,7 @@ module _ (leads : TypeHandle → Option KitType) (typed : Value → Option TypeH
 
 -- a function of a module that keeps the rules is typed
 pub typed_function : (leads : TypeHandle → Option KitType) (typed : Value → Option TypeHandle) (u : KitTree)
-    → IsRuledFunction leads typed u → AreDistinct (block_names u) → HaveTypesIn typed u
+    → IsRuledFunction leads typed u → AreDistinct (block_names u) → HasDeclaredTypes typed u
     → IsTyped leads {N = by_handle} (type_or_first typed) u
 typed_function leads typed u ruled apart types =
     let b = own_region leads typed u ruled in

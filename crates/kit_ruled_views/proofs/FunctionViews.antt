@@ -11,6 +11,7 @@ use Rattle.ir_trees.specs.Names.{Names, Contents}
 use Rattle.ir_trees.specs.Renames.{names_of}
 use Rattle.ir_trees.specs.Searched.{AreDistinct, labels_in, block_names}
 use Rattle.ir_trees.specs.Trees.{Label, Operations, Blocks, Regions, Tree, end, operation, block, region}
+use Rattle.kit.specs.Context.{KitTree}
 use Rattle.kit_ops.specs.declared.types.KitType.{KitType}
 use Rattle.kit.specs.Meaning.{KitOperation, KitBlock}
 use Rattle.kit_behaviour.specs.Machine.{AllEdges, Edge, Op, Branch, Block, Fun, ops_left, arguments_of}
@@ -21,7 +22,7 @@ use Rattle.kit_checks.specs.Sites.{Listed, operation_list, block_list}
 use Rattle.kit_checks.specs.Words.{is_branch, types_of}
 use Rattle.kit_views.specs.FlatView.{AreOps, AreFlatBlocks, names_in, FlattensTo}
 use Rattle.kit_views.specs.Reading.{Reading, kit_contents, kit_reading}
-use Rattle.kit_ruled_views.specs.Ruled.{KitTree, IsRuledFunction, HasOwnNames}
+use Rattle.kit_ruled_views.specs.Ruled.{IsRuledFunction, HasOwnNames}
 use Rattle.kit_ruled_views.proofs.FunctionSites.{KitBlocks, KitBody, KitAround, no_region, own_format, own_region}
 use Rattle.kit_ruled_views.proofs.FunctionSites.{inner_around, inner_keeps}
 use Rattle.kit_ruled_views.proofs.OperationViews.{Leads, OpLeads, HandsOn, IsRuled, handed, OpView, op_view}

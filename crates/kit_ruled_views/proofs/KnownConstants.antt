@@ -8,6 +8,8 @@ use Rattle.ir_names.specs.declared.interfaces.OpInterface.TheVariants as op
 use Rattle.ir_names.specs.Dictionary.{attribute_at}
 use Rattle.ir_program.specs.declared.handles.Value.{Value}
 use Rattle.ir_trees.specs.Trees.{Defined}
+use Rattle.kit.specs.Context.{KitTree}
+use Rattle.kit_checks.specs.KitWorld.{kit_world}
 use Rattle.opt_trees.specs.Occurrences.{types_of}
 use Rattle.opt_trees.proofs.Lists.{some_same, none_some}
 use Rattle.opt_inside.specs.Around.{or_none}
@@ -20,7 +22,6 @@ use Rattle.kit_ops.specs.Keys as keys
 use Rattle.kit_ops.specs.Table.{has_interface}
 use Rattle.kit.specs.Meaning.{Entries, fold_of, integer_in, if_of_type}
 use Rattle.kit_checks.specs.Rules.{HasConstantValue, FitsKind}
-use Rattle.kit_ruled_views.specs.Ruled.{KitTree, kit_world}
 use Rattle.kit_ruled_views.proofs.SmallLists.{one_of, two_of}
 use Rattle.kit_ruled_views.proofs.TypeLemmas.{is_number}
 

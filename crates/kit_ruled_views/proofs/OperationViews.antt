@@ -10,6 +10,8 @@ use Rattle.ir_program.specs.declared.handles.Ptr.{Ptr}
 use Rattle.ir_program.specs.declared.handles.Value.{Value}
 use Rattle.ir_trees.specs.Renames.{names_of}
 use Rattle.ir_trees.specs.Trees.{Defined, end, block}
+use Rattle.kit.specs.Context.{KitTree}
+use Rattle.kit_checks.specs.KitWorld.{kit_world}
 use Rattle.kit_ops.specs.declared.attributes.KitAttr.{KitAttr}
 use Rattle.kit_ops.specs.declared.attributes.KitAttr.TheVariants as attrs
 use Rattle.kit_ops.specs.declared.kinds.KitOp.{KitOp}
@@ -27,7 +29,6 @@ use Rattle.kit_checks.specs.Words.{is_instruction, is_branch, along_edge, segmen
 use Rattle.kit_checks.specs.World.{World}
 use Rattle.kit_views.specs.FlatView.{kind_of, IsOp, names_in}
 use Rattle.kit_views.specs.Reading.{Reading, kit_contents, kit_reading}
-use Rattle.kit_ruled_views.specs.Ruled.{KitTree, kit_world}
 use Rattle.kit_ruled_views.proofs.FunctionSites.{KitBlocks, KitBody}
 use Rattle.kit_ruled_views.proofs.SmallLists.{none_of, one_of, two_of, some_of, in_two, taken}
 

@@ -1,21 +1,18 @@
 -- What holds of the functions of a context in which a module keeps the rules.
 use Rattle.std.specs.Prelude.{◌≡◌, ℕ, List}
 use Rattle.ir_types.specs.Interned.{key_at}
-use Rattle.ir_types.specs.Views.{TypesView}
-use Rattle.ir_context.specs.Views.{ContextView}
 use Rattle.ir_program.specs.Program.{type_at}
 use Rattle.ir_program.specs.declared.handles.Operation.{Operation}
 use Rattle.ir_program.specs.declared.handles.Ptr.{Ptr}
 use Rattle.ir_program.specs.declared.handles.Value.{Value}
 use Rattle.ir_trees.specs.Stands.{by_handle, StandsFor}
+use Rattle.kit.specs.Context.{KitContext, KitTree}
 use Rattle.opt_trees.specs.Dce.{TreeSurroundings}
 use Rattle.opt_inside.specs.Around.{IsTakenOutside, SaysAround}
 use Rattle.opt_inside.specs.Occurring.{IsDefinedBelow}
-use Rattle.kit.specs.declared.dialect.Unused.{Unused}
-use Rattle.kit.specs.Meaning.{KitOperation, KitBlock, kit}
+use Rattle.kit.specs.Meaning.{kit}
 use Rattle.kit_ops.specs.declared.attributes.IntegerAttr.{IntegerAttr}
 use Rattle.kit_ops.specs.declared.kinds.KitOp.TheVariants as ops
-use Rattle.kit_ops.specs.declared.types.KitType.{KitType}
 use Rattle.kit_behaviour.specs.Machine.{Fun}
 use Rattle.kit_checks.specs.declared.rule.Rule.{Rule}
 use Rattle.kit_checks.specs.Faults.{KeptEverywhere}
@@ -25,11 +22,7 @@ use Rattle.kit_views.specs.FlatView.{FlattensTo}
 use Rattle.kit_views.specs.Laws.{NothingPinned}
 use Rattle.kit_views.specs.Reading.{kit_reading}
 use Rattle.kit_views.specs.Typed.{IsTyped}
-use Rattle.kit_ruled_views.specs.Ruled.{KitTree, type_or_first}
-
--- what is seen of a context of `kit`
-abbrev pub KitContext : Type 0
-KitContext = ContextView KitOperation KitBlock (TypesView KitType Unused Unused)
+use Rattle.kit_ruled_views.specs.Ruled.{type_or_first}
 
 -- each operation inside the root keeps each of the fourteen rules, where it is
 abbrev pub KeepsRules : KitContext → Ptr Operation → Type 0

@@ -7,6 +7,8 @@ use Rattle.ir_trees.specs.Renames.{Maps, IsOneToOne, rename_root, values_of}
 use Rattle.ir_trees.specs.Searched.{AreDistinct, Lists, block_names}
 use Rattle.ir_trees.specs.Stands.{by_handle}
 use Rattle.ir_trees.specs.Trees.{Root}
+use Rattle.kit.specs.Context.{KitTree}
+use Rattle.kit_checks.specs.KitWorld.{HasDeclaredTypes}
 use Rattle.opt_trees.specs.Dce.{TreeSurroundings, IsDce}
 use Rattle.opt_trees.specs.Occurrences.{defined_in}
 use Rattle.opt_trees.specs.Simplify.{StartingRegions, IsCut, LosesUse, decided}
@@ -19,7 +21,7 @@ use Rattle.kit_behaviour.specs.Renaming.{rename_fun}
 use Rattle.kit_views.specs.FlatView.{IsSameness, IsView, FlattensTo, names_in}
 use Rattle.kit_views.specs.Reading.{Reading, kit_contents, kit_reading}
 use Rattle.kit_views.specs.Typed.{IsTyped}
-use Rattle.kit_ruled_views.specs.Ruled.{KitTree, IsRuledFunction, HasOwnNames, HaveTypesIn, type_or_first}
+use Rattle.kit_ruled_views.specs.Ruled.{IsRuledFunction, HasOwnNames, type_or_first}
 
 -- a function of a module that keeps the rules has a flat view
 abbrev pub RuledFunctionsAreFlat : Type 0
@@ -30,7 +32,7 @@ RuledFunctionsAreFlat = (leads : TypeHandle → Option KitType) (typed : Value �
 -- it is typed, by the types that the rules read
 abbrev pub FunctionsAreTyped : Type 0
 FunctionsAreTyped = (leads : TypeHandle → Option KitType) (typed : Value → Option TypeHandle) (u : KitTree) →
-    IsRuledFunction leads typed u → AreDistinct (block_names u) → HaveTypesIn typed u →
+    IsRuledFunction leads typed u → AreDistinct (block_names u) → HasDeclaredTypes typed u →
     IsTyped leads {N = by_handle} (type_or_first typed) u
 
 -- a tree whose blocks have distinct names has one flat view at most

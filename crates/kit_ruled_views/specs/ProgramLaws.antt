@@ -5,10 +5,12 @@ use Rattle.ir_program.specs.declared.handles.Value.{Value}
 use Rattle.ir_trees.specs.Names.{Names}
 use Rattle.ir_trees.specs.Stands.{by_handle}
 use Rattle.ir_trees.specs.Trees.{Root}
+use Rattle.kit.specs.Context.{KitTree}
+use Rattle.kit_checks.specs.KitWorld.{HasDeclaredTypes, kit_world}
 use Rattle.kit_ops.specs.declared.types.KitType.{KitType}
 use Rattle.kit_checks.specs.declared.rule.Rule.{Rule}
 use Rattle.kit_checks.specs.Faults.{KeptEverywhere}
-use Rattle.kit_ruled_views.specs.Ruled.{KitTree, kit_world, HasOwnNames, HaveTypesIn, type_or_first}
+use Rattle.kit_ruled_views.specs.Ruled.{HasOwnNames, type_or_first}
 use Rattle.kit_behaviour.specs.Machine.{FunctionsByPath}
 use Rattle.kit_behaviour.specs.ConstantPropagation as constants
 use Rattle.kit_behaviour.specs.ConstantPropagation.{all_wanted}
@@ -43,7 +45,7 @@ OneProgram N = (same : N.value → N.value → Bool) (leads : TypeHandle → Opt
 -- a module that keeps the rules, under names that are distinct, is sound by the types that the rules read
 abbrev pub RulesMakeSound : Type 0
 RulesMakeSound = (leads : TypeHandle → Option KitType) (typed : Value → Option TypeHandle) (numbered : List ℕ → ℕ)
-    (t : KitTree) → ((r : Rule) → KeptEverywhere (kit_world leads typed) t r) → HasOwnNames t → HaveTypesIn typed t →
+    (t : KitTree) → ((r : Rule) → KeptEverywhere (kit_world leads typed) t r) → HasOwnNames t → HasDeclaredTypes typed t →
     IsSound {N = by_handle} leads numbered (type_or_first typed) t
 
 -- of names of operations, of blocks and of values it is told whether they are the same

@@ -18,6 +18,7 @@ use Rattle.ir_trees.specs.Stands.{AreTree, no_operations, no_blocks, no_regions,
 use Rattle.ir_trees.specs.Stands.{ProgramLabel, StandsFor}
 use Rattle.ir_trees.specs.Trees.{Operations, Blocks, Regions, Sort, end}
 use Rattle.ir_trees.specs.Trees as trees
+use Rattle.kit.specs.Context.{KitContext, KitTree}
 use Rattle.opt_trees.proofs.NoneDead.{has-left, has-right}
 use Rattle.opt_trees.specs.Occurrences.{Has}
 use Rattle.text_dialect.specs.Seen.{SeenOperation, SeenBlock, seen, seen_operation, seen_block}
@@ -28,7 +29,6 @@ use Rattle.kit.specs.Meaning.{KitOperation, KitBlock}
 use Rattle.kit.specs.Says.{says}
 use Rattle.kit_ops.specs.declared.attributes.KitAttr.{KitAttr}
 use Rattle.kit_ops.specs.declared.kinds.KitOp.{KitOp}
-use Rattle.kit_writable_trees.specs.Laws.{WritableContext, WritableTree}
 use Rattle.kit_text_programs.proofs.AlikeLists.{before, pairs_joined}
 use Rattle.kit_text_programs.proofs.SaidFunctions.{KitPart}
 use Rattle.kit_text_programs.proofs.ToldTexts.ClosedNumbers.{blocks_defined}
@@ -73,7 +73,7 @@ blocks_found (trees.block l os rest) =
 blocks_found (trees.region bs rest) =
     (λ i. blocks_found bs i ++ blocks_found rest i) ∙ sym (map-append name_of (labels_in bs) (labels_in rest))
 
-module _ (s : WritableContext) (numbering : Numbering) where
+module _ (s : KitContext) (numbering : Numbering) where
   abbrev Numbered : Ptr BasicBlock → ℕ → Type 0
   Numbered = (Named numbering).block
 
@@ -243,10 +243,10 @@ module _ (s : WritableContext) (numbering : Numbering) where
 -- ---- roots
 
 -- the blocks of a tree in their order, beside the values of a numbering
-abbrev pub with_own_blocks : Numbering → WritableTree → Numbering
+abbrev pub with_own_blocks : Numbering → KitTree → Numbering
 with_own_blocks numbering t = record { values = numbering.values; blocks = block_names t }
 
-root_numbered : (s : WritableContext) (numbering : Numbering) (text : Entity ℕ) (root : Ptr Operation) (t : WritableTree)
+root_numbered : (s : KitContext) (numbering : Numbering) (text : Entity ℕ) (root : Ptr Operation) (t : KitTree)
     → StandsForTexts says (Named numbering) (seen s) root text → StandsFor s.program root t
     → Pairs (Named numbering).block (block_names t) (blocks_of text)
 root_numbered s numbering (entity (operation kind results used successors pieces) us) root t h stands =
@@ -262,8 +262,8 @@ root_numbered s numbering (entity (block named label arguments) us) root t h sta
 
 -- an operation stands for a text with the blocks of its own tree, where the text numbers its blocks in their order, and edges in it
 -- lead to blocks in it
-pub stands_with_own_blocks : (s : WritableContext) (numbering : Numbering) (text : Entity ℕ) (root : Ptr Operation)
-    (t : WritableTree) → StandsForTexts says (Named numbering) (seen s) root text → StandsFor s.program root t
+pub stands_with_own_blocks : (s : KitContext) (numbering : Numbering) (text : Entity ℕ) (root : Ptr Operation)
+    (t : KitTree) → StandsForTexts says (Named numbering) (seen s) root text → StandsFor s.program root t
     → HasEdges [] text → blocks_of text ≡ range_with_len 0 (length (blocks_of text))
     → StandsForTexts says (Named (with_own_blocks numbering t)) (seen s) root text
 stands_with_own_blocks s numbering text root t h stands edges ordered =
@@ -277,7 +277,7 @@ stands_with_own_blocks s numbering text root t h stands edges ordered =
         own.1 ∙ ap Some (same_Some own.0 b (sym own.2 ∙ named))
 
 -- so its numbers are its own
-pub own_numbers : (numbering : Numbering) (t : WritableTree)
+pub own_numbers : (numbering : Numbering) (t : KitTree)
     → ((i j : ℕ) (v w : Value) → slice_get numbering.values i ≡ Some v → slice_get numbering.values j ≡ Some w
     → v.number ≡ w.number → i ≡ j) → AreDistinct (block_names t) → HaveOwnNumbers (with_own_blocks numbering t)
 own_numbers numbering t values blocks = record { values = values; blocks = blocks }

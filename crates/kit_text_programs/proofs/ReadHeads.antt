@@ -12,9 +12,9 @@ use Rattle.ir_base.specs.declared.types.TypeHandle.{TypeHandle}
 use Rattle.ir_names.specs.Dictionary.{attribute_at}
 use Rattle.ir_names.specs.Identifier.{text_of}
 use Rattle.ir_names.specs.Tree.{LabelledTree, Trees, node, no_tree, a_tree}
-use Rattle.ir_print.specs.Pieces.{width, attribute_of_kind, ValueTree, Pieces}
-use Rattle.ir_print.specs.Shown.{Said, said_type, said_attribute, said_name, said_number, said_operands, said_successor, said_region, said_width}
-use Rattle.ir_print.specs.Shown.{leaf, ShowsAll, ShowsType}
+use Rattle.ir_print.specs.Pieces.{leaf, name, number, width, value_of_kind, ValueTree, Pieces}
+use Rattle.ir_print.specs.Shown.{Said, said_type, said_attribute, said_leaf, said_operands, said_successor, said_region}
+use Rattle.ir_print.specs.Shown.{alone, ShowsAll, ShowsType}
 use Rattle.kit_ops.specs.declared.attributes.IntegerAttr.{IntegerAttr}
 use Rattle.kit_ops.specs.declared.attributes.KitAttr.{KitAttr}
 use Rattle.kit_ops.specs.declared.attributes.KitAttr.TheVariants as attrs
@@ -39,6 +39,7 @@ use Rattle.kit.specs.Seen.{first_seen, one_seen, two_seen, three_seen}
 use Rattle.kit_views.specs.Reading.{number_in}
 use Rattle.kit_text_programs.proofs.SaidHeads.{said_parts, bits_shown}
 use Rattle.kit_text_programs.proofs.SaidPrograms.{name_said, bits_said, sizes_read}
+use Rattle.ir_print.specs.declared.format.ValueSort.TheVariants as sorts
 use Rattle.kit_text_programs.proofs.SaidTexts.AttributeMaps.{either_key, two_at}
 
 abbrev pub Entries : Type 0
@@ -137,7 +138,7 @@ callee_read _ = None
 
 -- the integer type of a constant
 abbrev pub integer_read : Pieces → Option IntegerType
-integer_read (a_tree (node l (a_tree p (a_tree (node (width s w) vs) ws))) ts) =
+integer_read (a_tree (node l (a_tree p (a_tree (node (leaf (width s w)) vs) ws))) ts) =
     Some (record { signedness = s; width = w })
 integer_read _ = None
 
@@ -158,7 +159,7 @@ pub record IsRead (keys : List KitType) (k : KitOp) (es : Entries) (tys : List T
 pub edges_shown : (keys : List KitType) (a b : ℕ) (ps : Pieces) → ShowsAll says keys (condition_said a b) ps
     → sizes_read ps ≡ Some (1 ∷ a ∷ b ∷ [])
 edges_shown keys a b ps h =
-    let k = three_seen says keys (leaf (said_operands 1)) (leaf (said_successor a)) (leaf (said_successor b)) ps h in
+    let k = three_seen says keys (alone (said_operands 1)) (alone (said_successor a)) (alone (said_successor b)) ps h in
     ap sizes_read (k.3
     ∙ (λ i. a_tree (k.4.1 i) (a_tree (k.5.1 i) (a_tree (k.6.1 i) no_tree))))
 
@@ -172,10 +173,10 @@ module _ (keys : List KitType) (es : Entries) (n : ℕ) (tys : List TypeHandle) 
       let same : parts.0 ≡ form = same_Some parts.0 form (sym parts.1 ∙ is) in
       subst (λ f. said_in f es n tys ≡ Some said) same parts.3
 
-  name_first : (cs : List ℕ) (us : SaidTrees) → ShowsAll says keys (a_tree (leaf (said_name cs)) us) ps
+  name_first : (cs : List ℕ) (us : SaidTrees) → ShowsAll says keys (a_tree (alone (said_leaf (name cs))) us) ps
       → Some cs ≡ Some (name_said ps)
   name_first cs us h =
-      let k = first_seen says keys (leaf (said_name cs)) us ps h in
+      let k = first_seen says keys (alone (said_leaf (name cs))) us ps h in
       ap Some (sym (ap name_said k.2 ∙ ap (λ (t : ValueTree). name_said (a_tree t k.1)) k.3.1))
 
   -- an operation without attributes
@@ -196,9 +197,9 @@ module _ (keys : List KitType) (es : Entries) (n : ℕ) (tys : List TypeHandle) 
       → said_of_module o ≡ Some said → IsRead keys ops.Module es tys ps
   module_read None at l e = absurd (none-some said e)
   module_read (Some (attrs.Identifier id)) at l e =
-      let same = same_Some (two (leaf (said_name (text_of id))) (leaf said_region)) said e in
+      let same = same_Some (two (alone (said_leaf (name (text_of id)))) (alone said_region)) said e in
       record {
-        names = ap (option_and_then identifier_in) at ∙ name_first (text_of id) (one (leaf said_region))
+        names = ap (option_and_then identifier_in) at ∙ name_first (text_of id) (one (alone said_region))
             (subst (λ (z : SaidTrees). ShowsAll says keys z ps) (sym same) shown);
         types = λ is. absurd (false≢true (ap is_function is));
         valued = λ is. absurd (false≢true (ap is_constant is));
@@ -217,22 +218,22 @@ module _ (keys : List KitType) (es : Entries) (n : ℕ) (tys : List TypeHandle) 
 
   -- the handle of a type is shown by the second piece
   second_type : (cs : List ℕ) (ty : TypeHandle)
-      → ShowsAll says keys (a_tree (leaf (said_name cs)) (two (leaf (said_type ty)) (leaf said_region))) ps
+      → ShowsAll says keys (a_tree (alone (said_leaf (name cs))) (two (alone (said_type ty)) (alone said_region))) ps
       → (t : ValueTree) × ShowsType says keys ty t × (type_read ps ≡ Some t)
   second_type cs ty h =
-      let k = three_seen says keys (leaf (said_name cs)) (leaf (said_type ty)) (leaf said_region) ps h in
+      let k = three_seen says keys (alone (said_leaf (name cs))) (alone (said_type ty)) (alone said_region) ps h in
       (k.1, subst (ShowsType says keys ty) (sym k.5.2) k.5.3, ap type_read k.3)
 
   typed_read : (o p : Option KitAttr) → attribute_at es symbol_name ≡ o → attribute_at es function_type ≡ p
       → (length es == 2) ≡ true → said_of_function o p ≡ Some said → IsRead keys ops.Func es tys ps
   typed_read (Some (attrs.Identifier id)) (Some (attrs.«Type» ty)) at there l e =
-      let same = same_Some (a_tree (leaf (said_name (text_of id))) (two (leaf (said_type ty))
-      (leaf said_region))) said e in
+      let same = same_Some (a_tree (alone (said_leaf (name (text_of id)))) (two (alone (said_type ty))
+      (alone said_region))) said e in
       let all = subst (λ (z : SaidTrees). ShowsAll says keys z ps) (sym same) shown in
       let type = second_type (text_of id) ty all in
       record {
-        names = ap (option_and_then identifier_in) at ∙ name_first (text_of id) (two (leaf (said_type ty))
-            (leaf said_region)) all;
+        names = ap (option_and_then identifier_in) at ∙ name_first (text_of id) (two (alone (said_type ty))
+            (alone said_region)) all;
         types = λ is. (ty, type.0, type.1, type.2, ap (option_and_then type_in) there);
         valued = λ is. absurd (false≢true (ap is_constant is));
         own = two_own ops.Func symbol_name function_type (inl refl) (inr refl) function_keys es (attrs.Identifier id)
@@ -257,24 +258,24 @@ module _ (keys : List KitType) (es : Entries) (n : ℕ) (tys : List TypeHandle) 
 
   -- ---- constants
 
-  attr_same : (a b : KitAttr) → ◌≡◌ {A = LabelledTree (Said KitAttr)} (leaf (said_attribute a)) (leaf (said_attribute b))
+  attr_same : (a b : KitAttr) → ◌≡◌ {A = LabelledTree (Said KitAttr)} (alone (said_attribute a)) (alone (said_attribute b))
       → a ≡ b
   attr_same a b e = cc
 
   width_read : (a : IntegerAttr) (m : ℕ) (ts : Pieces)
       → ShowsAll says keys (integer_said a.integer.signedness a.integer.width (printed_number a)) ts
-      → integer_read (a_tree (node (attribute_of_kind m) ts) no_tree) ≡ Some a.integer
+      → integer_read (a_tree (node (value_of_kind sorts.Attribute m) ts) no_tree) ≡ Some a.integer
   width_read a m ts h =
       let x = printed_number a in
-      let k = two_seen says keys (leaf (said_number x.is_negative x.magnitude))
-      (leaf (said_width a.integer.signedness a.integer.width)) ts h in
-      ap (λ (us : Pieces). integer_read (a_tree (node (attribute_of_kind m) us) no_tree)) k.2
-      ∙ ap (λ (t : ValueTree). integer_read (a_tree (node (attribute_of_kind m) (a_tree k.0
+      let k = two_seen says keys (alone (said_leaf (number x.is_negative x.magnitude)))
+      (alone (said_leaf (width a.integer.signedness a.integer.width))) ts h in
+      ap (λ (us : Pieces). integer_read (a_tree (node (value_of_kind sorts.Attribute m) us) no_tree)) k.2
+      ∙ ap (λ (t : ValueTree). integer_read (a_tree (node (value_of_kind sorts.Attribute m) (a_tree k.0
       (a_tree t no_tree))) no_tree)) k.4.1
 
   attribute_read : (a : IntegerAttr) (m : ℕ) (us : SaidTrees) (ts : Pieces)
       → said_of_attribute (attrs.Integer a) ≡ Some (m, us) → ShowsAll says keys us ts
-      → integer_read (a_tree (node (attribute_of_kind m) ts) no_tree) ≡ Some a.integer
+      → integer_read (a_tree (node (value_of_kind sorts.Attribute m) ts) no_tree) ≡ Some a.integer
   attribute_read a m us ts e h =
       let said : SaidTrees = integer_said a.integer.signedness a.integer.width (printed_number a) in
       let kept = only_some {X = ℕ × SaidTrees} (has_values a.integer.width && nat_lt a.bits (2 ^ a.integer.width))
@@ -282,10 +283,10 @@ module _ (keys : List KitType) (es : Entries) (n : ℕ) (tys : List TypeHandle) 
       let parts = some_pair_parts 0 m said us kept.1 in
       width_read a m ts (subst (λ (z : SaidTrees). ShowsAll says keys z ts) (sym parts.1) h)
 
-  value_piece : (a : IntegerAttr) → ShowsAll says keys (one (leaf (said_attribute (attrs.Integer a)))) ps
+  value_piece : (a : IntegerAttr) → ShowsAll says keys (one (alone (said_attribute (attrs.Integer a)))) ps
       → integer_read ps ≡ Some a.integer
   value_piece a h =
-      let k = one_seen says keys (leaf (said_attribute (attrs.Integer a))) ps h in
+      let k = one_seen says keys (alone (said_attribute (attrs.Integer a))) ps h in
       let inside = k.2.3 in
       let same : attrs.Integer a ≡ inside.0 = attr_same (attrs.Integer a) inside.0 inside.2 in
       let said : said_of_attribute (attrs.Integer a) ≡ Some (k.2.0, inside.1) = ap said_of_attribute same ∙ inside.3 in
@@ -316,7 +317,7 @@ module _ (keys : List KitType) (es : Entries) (n : ℕ) (tys : List TypeHandle) 
   third_type : (cs : List ℕ) (ty : TypeHandle) → ShowsAll says keys (call_said cs ty n) ps
       → (t : ValueTree) × ShowsType says keys ty t × (callee_read ps ≡ Some t)
   third_type cs ty h =
-      let k = three_seen says keys (leaf (said_name cs)) (leaf (said_operands n)) (leaf (said_type ty)) ps h in
+      let k = three_seen says keys (alone (said_leaf (name cs))) (alone (said_operands n)) (alone (said_type ty)) ps h in
       (k.2, subst (ShowsType says keys ty) (sym k.6.2) k.6.3, ap callee_read k.3)
 
   call_read : (length es == 2) ≡ true
@@ -341,7 +342,7 @@ module _ (keys : List KitType) (es : Entries) (n : ℕ) (tys : List TypeHandle) 
           type.2,
           ap (option_and_then type_in) call.has_type,
           ap (option_and_then identifier_in) call.has_name
-              ∙ name_first (text_of call.name) (two (leaf (said_operands n)) (leaf (said_type call.type))) all,
+              ∙ name_first (text_of call.name) (two (alone (said_operands n)) (alone (said_type call.type))) all,
         );
         sizes = λ is. absurd (false≢true (ap is_cond_br is));
       }

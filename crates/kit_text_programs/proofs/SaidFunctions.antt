@@ -19,6 +19,7 @@ use Rattle.ir_trees.specs.Stands.{by_handle, in_program, head_of, defined_by, Ar
 use Rattle.ir_trees.specs.Stands.{first_operation, first_block}
 use Rattle.ir_trees.specs.Trees.{Sort, Operations, Blocks, Tree}
 use Rattle.ir_types.specs.Interned.{key_at}
+use Rattle.kit.specs.Context.{KitContext}
 use Rattle.opt_trees.specs.Occurrences.{types_of}
 use Rattle.text_dialect.specs.Seen.{SeenOperation, SeenBlock, seen, seen_operation, seen_block}
 use Rattle.text_dialect.specs.Standing.{HasDefinition, HasHead, HaveBlockTrees, HaveTrees}
@@ -36,7 +37,6 @@ use Rattle.kit_behaviour.specs.Renaming.{rename_op, rename_block, same_block, Al
 use Rattle.kit_behaviour.proofs.ControlFlow.NamedPlacing.{AreNamed}
 use Rattle.kit_views.specs.FlatView.{kind_of, IsOp, AreOps, AreFlatBlocks}
 use Rattle.kit_views.specs.Reading.{kit_reading}
-use Rattle.kit_writable_trees.specs.Laws.{WritableContext}
 use Rattle.kit_text_programs.specs.Laws.{HaveOwnNumbers}
 use Rattle.kit_text_programs.proofs.SaidPrograms.{width_said, bits_said, first_in, second_in, op_said, numbers_in}
 use Rattle.kit_text_programs.proofs.SaidPrograms.{name_said, sizes_said, edge_said, place_among, widths_in, ops_said, blocks_said}
@@ -77,7 +77,7 @@ second_segment x us vs a b long more =
     ap (λ n. take b (drop n (us ++ vs))) (sym long) ∙ ap (take b) (drop-append_seam us vs)
     ∙ ap (λ n. take n vs) (sym more) ∙ take-length vs
 
-module _ (s : WritableContext) (numbering : Numbering) (own : HaveOwnNumbers numbering) (numbered : List ℕ → ℕ) where
+module _ (s : KitContext) (numbering : Numbering) (own : HaveOwnNumbers numbering) (numbered : List ℕ → ℕ) where
   -- values by their numbers in the text
   abbrev by_number : Value → ℕ
   by_number = number_of_value numbering own

@@ -12,9 +12,9 @@ use Rattle.ir_names.specs.declared.identifier.Identifier.{Identifier}
 use Rattle.ir_names.specs.Dictionary.{attribute_at}
 use Rattle.ir_names.specs.Identifier.{text_of}
 use Rattle.ir_names.specs.Tree.{LabelledTree, Trees, node, no_tree, a_tree}
-use Rattle.ir_print.specs.Pieces.{type_of_kind, attribute_of_kind, number, ValueTree, Pieces}
-use Rattle.ir_print.specs.Shown.{Said, said_type, said_attribute, said_list, said_name, said_number, said_width}
-use Rattle.ir_print.specs.Shown.{said_region, said_operands, leaf, ShowsAll, ShowsType}
+use Rattle.ir_print.specs.Pieces.{value_of_kind, leaf, name, number, width, ValueTree, Pieces}
+use Rattle.ir_print.specs.Shown.{Said, said_type, said_attribute, said_list, said_leaf}
+use Rattle.ir_print.specs.Shown.{said_region, said_operands, alone, ShowsAll, ShowsType}
 use Rattle.kit_ops.specs.declared.attributes.IntegerAttr.{IntegerAttr}
 use Rattle.kit_ops.specs.declared.attributes.KitAttr.{KitAttr}
 use Rattle.kit_ops.specs.declared.attributes.KitAttr.TheVariants as attrs
@@ -33,6 +33,7 @@ use Rattle.kit.specs.Readable.{constant_says, call_says, numbered_kind}
 use Rattle.kit.specs.Seen.{seen, none_seen, first_seen, one_seen, two_seen}
 use Rattle.kit_views.specs.Reading.{number_in, named_in, integer_of}
 use Rattle.kit_ruled_views.specs.Paths.{is_name}
+use Rattle.ir_print.specs.declared.format.ValueSort.TheVariants as sorts
 use Rattle.kit_text_programs.proofs.SaidPrograms.{width_said, bits_said, name_said, passes, is_called}
 
 -- ---- what is said, in parts
@@ -125,27 +126,27 @@ module_kind ops.Call e = absurd (false≢true e)
 module _ (keys : List KitType) where
   -- ---- widths
 
-  width_piece : (sign : Signedness) (w n : ℕ) (ts : Pieces) → ShowsAll says keys (one (leaf (said_width sign w))) ts
-      → w ≡ width_said (node (type_of_kind n) ts)
+  width_piece : (sign : Signedness) (w n : ℕ) (ts : Pieces) → ShowsAll says keys (one (alone (said_leaf (width sign w)))) ts
+      → w ≡ width_said (node (value_of_kind sorts.«Type» n) ts)
   width_piece sign w n ts h =
-      let k = one_seen says keys (leaf (said_width sign w)) ts h in
-      sym (ap (λ (x : Pieces). width_said (node (type_of_kind n) x)) k.1
-      ∙ ap (λ (x : ValueTree). width_said (node (type_of_kind n) (a_tree x no_tree))) k.2.1)
+      let k = one_seen says keys (alone (said_leaf (width sign w))) ts h in
+      sym (ap (λ (x : Pieces). width_said (node (value_of_kind sorts.«Type» n) x)) k.1
+      ∙ ap (λ (x : ValueTree). width_said (node (value_of_kind sorts.«Type» n) (a_tree x no_tree))) k.2.1)
 
   list_piece : (xs ys : SaidTrees) (n : ℕ) (ts : Pieces)
-      → ShowsAll says keys (two (node said_list xs) (node said_list ys)) ts → 0 ≡ width_said (node (type_of_kind n) ts)
+      → ShowsAll says keys (two (node said_list xs) (node said_list ys)) ts → 0 ≡ width_said (node (value_of_kind sorts.«Type» n) ts)
   list_piece xs ys n ts h =
       let k = two_seen says keys (node said_list xs) (node said_list ys) ts h in
-      sym (ap (λ (x : Pieces). width_said (node (type_of_kind n) x)) k.2
-      ∙ ap (λ (x : ValueTree). width_said (node (type_of_kind n) (a_tree x (a_tree k.1 no_tree)))) k.3.1)
+      sym (ap (λ (x : Pieces). width_said (node (value_of_kind sorts.«Type» n) x)) k.2
+      ∙ ap (λ (x : ValueTree). width_said (node (value_of_kind sorts.«Type» n) (a_tree x (a_tree k.1 no_tree)))) k.3.1)
 
-  no_piece : (n : ℕ) (ts : Pieces) → ShowsAll says keys no_tree ts → 0 ≡ width_said (node (type_of_kind n) ts)
-  no_piece n ts h = sym (ap (λ (x : Pieces). width_said (node (type_of_kind n) x)) (none_seen says keys ts h))
+  no_piece : (n : ℕ) (ts : Pieces) → ShowsAll says keys no_tree ts → 0 ≡ width_said (node (value_of_kind sorts.«Type» n) ts)
+  no_piece n ts h = sym (ap (λ (x : Pieces). width_said (node (value_of_kind sorts.«Type» n) x)) (none_seen says keys ts h))
 
   width_key : (key : KitType) (n : ℕ) (us : SaidTrees) (ts : Pieces) → said_of_type key ≡ Some (n, us)
-      → ShowsAll says keys us ts → (integer_of (Some key)).width ≡ width_said (node (type_of_kind n) ts)
+      → ShowsAll says keys us ts → (integer_of (Some key)).width ≡ width_said (node (value_of_kind sorts.«Type» n) ts)
   width_key (types.Integer t) n us ts e h =
-      let said : SaidTrees = one (leaf (said_width t.signedness t.width)) in
+      let said : SaidTrees = one (alone (said_leaf (width t.signedness t.width))) in
       let kept = only_some {X = ℕ × SaidTrees} (nat_lt t.width (2 ^ 32)) (Some (0, said)) (n, us) e in
       let parts = some_pair_parts 0 n said us kept.1 in
       width_piece t.signedness t.width n ts (subst (λ (z : SaidTrees). ShowsAll says keys z ts) (sym parts.1) h)
@@ -159,14 +160,14 @@ module _ (keys : List KitType) where
       let parts = some_pair_parts 2 n none us e in
       no_piece n ts (subst (λ (z : SaidTrees). ShowsAll says keys z ts) (sym parts.1) h)
 
-  type_same : (a b : TypeHandle) → ◌≡◌ {A = LabelledTree (Said KitAttr)} (leaf (said_type a)) (leaf (said_type b)) → a ≡ b
+  type_same : (a b : TypeHandle) → ◌≡◌ {A = LabelledTree (Said KitAttr)} (alone (said_type a)) (alone (said_type b)) → a ≡ b
   type_same a b e = cc
 
   -- the type that is shown has the width that is said
   pub width_shown : (ty : TypeHandle) (t : ValueTree) → ShowsType says keys ty t
       → (integer_of (slice_get keys ty.number)).width ≡ width_said t
   width_shown ty t h =
-      let k = seen says keys (leaf (said_type ty)) t h in
+      let k = seen says keys (alone (said_type ty)) t h in
       let shown = k.3 in
       let same : ty ≡ shown.0 = type_same ty shown.0 shown.3 in
       ap (λ (x : TypeHandle). (integer_of (slice_get keys x.number)).width) same
@@ -178,20 +179,20 @@ module _ (keys : List KitType) where
 
   integer_bits : (a : IntegerAttr) (n : ℕ) (ts : Pieces) → a.bits < 2 ^ a.integer.width
       → ShowsAll says keys (integer_said a.integer.signedness a.integer.width (printed_number a)) ts
-      → bits_said (a_tree (node (attribute_of_kind n) ts) no_tree) ≡ a.bits
+      → bits_said (a_tree (node (value_of_kind sorts.Attribute n) ts) no_tree) ≡ a.bits
   integer_bits a n ts low h =
       let m = printed_number a in
-      let k = two_seen says keys (leaf (said_number m.is_negative m.magnitude))
-      (leaf (said_width a.integer.signedness a.integer.width)) ts h in
-      ap (λ (ps : Pieces). bits_said (a_tree (node (attribute_of_kind n) ps) no_tree)) k.2
+      let k = two_seen says keys (alone (said_leaf (number m.is_negative m.magnitude)))
+      (alone (said_leaf (width a.integer.signedness a.integer.width))) ts h in
+      ap (λ (ps : Pieces). bits_said (a_tree (node (value_of_kind sorts.Attribute n) ps) no_tree)) k.2
       ∙ (ap (λ (t : ValueTree). bits_said
-      (a_tree (node (attribute_of_kind n) (a_tree t (a_tree k.1 no_tree))) no_tree)) k.3.1
-      ∙ (ap (λ (t : ValueTree). bits_said (a_tree (node (attribute_of_kind n)
-      (a_tree (node (number m.is_negative m.magnitude) k.3.0) (a_tree t no_tree))) no_tree)) k.4.1
+      (a_tree (node (value_of_kind sorts.Attribute n) (a_tree t (a_tree k.1 no_tree))) no_tree)) k.3.1
+      ∙ (ap (λ (t : ValueTree). bits_said (a_tree (node (value_of_kind sorts.Attribute n)
+      (a_tree (node (leaf (number m.is_negative m.magnitude)) k.3.0) (a_tree t no_tree))) no_tree)) k.4.1
       ∙ reread a.integer.width a.bits low (is_below_zero a.integer.signedness a.integer.width a.bits)))
 
   attribute_bits : (attr : KitAttr) (n : ℕ) (us : SaidTrees) (ts : Pieces) → said_of_attribute attr ≡ Some (n, us)
-      → ShowsAll says keys us ts → bits_said (a_tree (node (attribute_of_kind n) ts) no_tree) ≡ number_in (Some attr)
+      → ShowsAll says keys us ts → bits_said (a_tree (node (value_of_kind sorts.Attribute n) ts) no_tree) ≡ number_in (Some attr)
   attribute_bits (attrs.Integer a) n us ts e h =
       let said : SaidTrees = integer_said a.integer.signedness a.integer.width (printed_number a) in
       let kept = only_some {X = ℕ × SaidTrees} (has_values a.integer.width && nat_lt a.bits (2 ^ a.integer.width))
@@ -207,14 +208,14 @@ module _ (keys : List KitType) where
   attribute_bits (attrs.Note a) n us ts e h = absurd (none-some {A = ℕ × SaidTrees} (n, us) e)
   attribute_bits (attrs.Origin a) n us ts e h = absurd (none-some {A = ℕ × SaidTrees} (n, us) e)
 
-  attr_same : (a b : KitAttr) → ◌≡◌ {A = LabelledTree (Said KitAttr)} (leaf (said_attribute a)) (leaf (said_attribute b))
+  attr_same : (a b : KitAttr) → ◌≡◌ {A = LabelledTree (Said KitAttr)} (alone (said_attribute a)) (alone (said_attribute b))
       → a ≡ b
   attr_same a b e = cc
 
-  attribute_shown : (attr : KitAttr) (ps : Pieces) → ShowsAll says keys (one (leaf (said_attribute attr))) ps
+  attribute_shown : (attr : KitAttr) (ps : Pieces) → ShowsAll says keys (one (alone (said_attribute attr))) ps
       → bits_said ps ≡ number_in (Some attr)
   attribute_shown attr ps h =
-      let k = one_seen says keys (leaf (said_attribute attr)) ps h in
+      let k = one_seen says keys (alone (said_attribute attr)) ps h in
       let shown = k.2.3 in
       let same : attr ≡ shown.0 = attr_same attr shown.0 shown.2 in
       ap bits_said (k.1 ∙ ap (λ (t : ValueTree). a_tree t no_tree) k.2.2)
@@ -241,9 +242,9 @@ module _ (keys : List KitType) where
   -- ---- names
 
   name_piece : (cs : List ℕ) (us : SaidTrees) (ps : Pieces)
-      → ShowsAll says keys (a_tree (leaf (said_name cs)) us) ps → name_said ps ≡ cs
+      → ShowsAll says keys (a_tree (alone (said_leaf (name cs))) us) ps → name_said ps ≡ cs
   name_piece cs us ps h =
-      let k = first_seen says keys (leaf (said_name cs)) us ps h in
+      let k = first_seen says keys (alone (said_leaf (name cs))) us ps h in
       ap name_said k.2 ∙ ap (λ (t : ValueTree). name_said (a_tree t k.1)) k.3.1
 
   -- a call names the function that it says
@@ -257,7 +258,7 @@ module _ (keys : List KitType) where
       (said_of_call (attribute_at entries callee) (attribute_at entries callee_type) n) said so in
       let call = call_says (attribute_at entries callee) (attribute_at entries callee_type) n said kept.1 in
       ap (named_in numbers) call.has_name
-      ∙ ap numbers (sym (name_piece (text_of call.name) (two (leaf (said_operands n)) (leaf (said_type call.type))) ps
+      ∙ ap numbers (sym (name_piece (text_of call.name) (two (alone (said_operands n)) (alone (said_type call.type))) ps
       (subst (λ (z : SaidTrees). ShowsAll says keys z ps) (sym call.says_it) h)))
 
   -- the name that is said is that of a module
@@ -266,8 +267,8 @@ module _ (keys : List KitType) where
       → is_name numbers x o ≡ nat_eq x (numbers (name_said ps))
   module_name numbers x None said ps e h = absurd (none-some said e)
   module_name numbers x (Some (attrs.Identifier id)) said ps e h =
-      let same = same_Some (two (leaf (said_name (text_of id))) (leaf said_region)) said e in
-      ap (λ cs. nat_eq x (numbers cs)) (sym (name_piece (text_of id) (one (leaf said_region)) ps
+      let same = same_Some (two (alone (said_leaf (name (text_of id)))) (alone said_region)) said e in
+      ap (λ cs. nat_eq x (numbers cs)) (sym (name_piece (text_of id) (one (alone said_region)) ps
       (subst (λ (z : SaidTrees). ShowsAll says keys z ps) (sym same) h)))
   module_name numbers x (Some (attrs.Integer a)) said ps e h = absurd (none-some said e)
   module_name numbers x (Some (attrs.«Type» a)) said ps e h = absurd (none-some said e)
@@ -279,11 +280,11 @@ module _ (keys : List KitType) where
   -- the type of a function, where it has one
   function_typed : (id : Identifier) (o : Option KitAttr) (said : SaidTrees)
       → said_of_function (Some (attrs.Identifier id)) o ≡ Some said
-      → (us : SaidTrees) × (a_tree (leaf (said_name (text_of id))) us ≡ said)
+      → (us : SaidTrees) × (a_tree (alone (said_leaf (name (text_of id)))) us ≡ said)
   function_typed id None said e = absurd (none-some said e)
   function_typed id (Some (attrs.«Type» ty)) said e = (
-    two (leaf (said_type ty)) (leaf said_region),
-    same_Some (a_tree (leaf (said_name (text_of id))) (two (leaf (said_type ty)) (leaf said_region))) said e,
+    two (alone (said_type ty)) (alone said_region),
+    same_Some (a_tree (alone (said_leaf (name (text_of id)))) (two (alone (said_type ty)) (alone said_region))) said e,
   )
   function_typed id (Some (attrs.Identifier a)) said e = absurd (none-some said e)
   function_typed id (Some (attrs.Integer a)) said e = absurd (none-some said e)

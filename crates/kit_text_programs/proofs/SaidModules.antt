@@ -17,6 +17,7 @@ use Rattle.ir_trees.specs.Stands.{by_handle, head_of, AreTree, no_operations, no
 use Rattle.ir_trees.specs.Stands.{first_block, first_region, StandsFor}
 use Rattle.ir_trees.specs.Trees.{Operations, Blocks, Regions, end, region}
 use Rattle.ir_types.specs.Interned.{key_at}
+use Rattle.kit.specs.Context.{KitContext, KitTree}
 use Rattle.text_dialect.specs.Seen.{SeenOperation, SeenBlock, seen, seen_operation}
 use Rattle.text_dialect.specs.Standing.{HasHead, HasTree, HaveRegionTrees, HaveBlockTrees, HaveTrees}
 use Rattle.text_rereading.specs.Rereading.{Numbering, Named}
@@ -32,7 +33,6 @@ use Rattle.kit_views.specs.FlatView.{AreFlatBlocks, names_in}
 use Rattle.kit_views.specs.Reading.{kit_reading}
 use Rattle.kit_ruled_views.specs.Paths.{is_function_named, is_module_named, first_with, members_in, locate}
 use Rattle.kit_ruled_views.specs.Programs.{HasFunctionView, IsProgramOf}
-use Rattle.kit_writable_trees.specs.Laws.{WritableContext, WritableTree}
 use Rattle.kit_text_programs.specs.Laws.{HaveOwnNumbers}
 use Rattle.kit_text_programs.proofs.SaidPrograms.{fun_said, first_inside, members_said, regions_below, first_said}
 use Rattle.kit_text_programs.proofs.SaidPrograms.{is_called, locate_said, placed_said, program_said}
@@ -42,7 +42,7 @@ use Rattle.kit_text_programs.proofs.SaidFunctions.{KitPart, same_operation, same
 use Rattle.kit_text_programs.proofs.SaidFunctions.{blocks_same, ArePlaces}
 use Rattle.kit_text_programs.proofs.Unlabelled.{HasSomeLabel}
 
-module _ (s : WritableContext) (numbering : Numbering) (own : HaveOwnNumbers numbering) (numbered : List ℕ → ℕ) where
+module _ (s : KitContext) (numbering : Numbering) (own : HaveOwnNumbers numbering) (numbered : List ℕ → ℕ) where
   -- the regions are those that the text says
   record AreSaidRegions (x : KitPart Regions) (us : Entities ℕ) : Type 0 where
     handles : List (Ptr Region)
@@ -56,7 +56,7 @@ module _ (s : WritableContext) (numbering : Numbering) (own : HaveOwnNumbers num
     trees : HaveTrees says (Named numbering) HasSomeLabel (seen s) members us
 
   -- a tree is found where the text has one, with the regions that the text says
-  abbrev AreFoundAlike : Option WritableTree → Option (Entities ℕ) → Type 0
+  abbrev AreFoundAlike : Option KitTree → Option (Entities ℕ) → Type 0
   AreFoundAlike None None = Unit {0}
   AreFoundAlike (Some u) (Some us) = AreSaidRegions u.regions us
   AreFoundAlike None (Some us) = ⊥
@@ -110,7 +110,7 @@ module _ (s : WritableContext) (numbering : Numbering) (own : HaveOwnNumbers num
 
   -- ---- paths
 
-  chosen_alike : (b c : Bool) (u : WritableTree) (us : Entities ℕ) (o : Option WritableTree) (x : Option (Entities ℕ)) → b ≡ c
+  chosen_alike : (b c : Bool) (u : KitTree) (us : Entities ℕ) (o : Option KitTree) (x : Option (Entities ℕ)) → b ≡ c
       → AreSaidRegions u.regions us → AreFoundAlike o x
       → AreFoundAlike (if b then Some u else o) (if c then Some us else x)
   chosen_alike true true u us o x e here rest = here
@@ -161,16 +161,16 @@ module _ (s : WritableContext) (numbering : Numbering) (own : HaveOwnNumbers num
       module_called s.types.keys numbered x v.payload.kind v.payload.notes.attributes _ _ kind h.said pieces h.says_it
       h.shown
 
-  then_alike : (f : WritableTree → Option WritableTree) (g : Entities ℕ → Option (Entities ℕ)) (o : Option WritableTree)
+  then_alike : (f : KitTree → Option KitTree) (g : Entities ℕ → Option (Entities ℕ)) (o : Option KitTree)
       (x : Option (Entities ℕ))
-      → ((u : WritableTree) (us : Entities ℕ) → AreSaidRegions u.regions us → AreFoundAlike (f u) (g us))
+      → ((u : KitTree) (us : Entities ℕ) → AreSaidRegions u.regions us → AreFoundAlike (f u) (g us))
       → AreFoundAlike o x → AreFoundAlike (option_and_then f o) (option_and_then g x)
   then_alike f g None None each h = tt
   then_alike f g (Some u) (Some us) each h = each u us h
   then_alike f g None (Some us) each h = absurd h
   then_alike f g (Some u) None each h = absurd h
 
-  located_alike : (path : List ℕ) (t : WritableTree) (us : Entities ℕ) → AreSaidRegions t.regions us
+  located_alike : (path : List ℕ) (t : KitTree) (us : Entities ℕ) → AreSaidRegions t.regions us
       → AreFoundAlike (locate numbered path t) (locate_said numbered path us)
   located_alike [] t us h = tt
   located_alike (x ∷ []) t us h =
@@ -234,7 +234,7 @@ module _ (s : WritableContext) (numbering : Numbering) (own : HaveOwnNumbers num
     function_placed (r ∷ rs) x (an_entity (entity (block named label arguments) us) ts)
         (first_region _ _ v bs rest there inner after) h e = absurd h.0
 
-  function_said : (o : Option WritableTree) (x : Option (Entities ℕ)) (q : Option (Fun Place)) → AreFoundAlike o x
+  function_said : (o : Option KitTree) (x : Option (Entities ℕ)) (q : Option (Fun Place)) → AreFoundAlike o x
       → HasFunctionView {N = by_handle} same_value (key_at s.types) numbered o q → q ≡ placed_said numbered x
   function_said None None q h is = is
   function_said None (Some us) q h is = absurd h
@@ -245,7 +245,7 @@ module _ (s : WritableContext) (numbering : Numbering) (own : HaveOwnNumbers num
 
   -- ---- modules
 
-  regions_so : (text : Entity ℕ) (root : Ptr Operation) (t : WritableTree)
+  regions_so : (text : Entity ℕ) (root : Ptr Operation) (t : KitTree)
       → HasTree says (Named numbering) HasSomeLabel (seen s) root text → StandsFor s.program root t
       → AreSaidRegions t.regions (regions_below text)
   regions_so (entity (operation kind results used successors pieces) us) root t h stands =
@@ -262,7 +262,7 @@ module _ (s : WritableContext) (numbering : Numbering) (own : HaveOwnNumbers num
   regions_so (entity (block named label arguments) us) root t h stands = absurd h
 
   -- the program is the one that the text says
-  pub said_so : (root : Ptr Operation) (text : Entity ℕ) (t : WritableTree) (p : FunctionsByPath Place)
+  pub said_so : (root : Ptr Operation) (text : Entity ℕ) (t : KitTree) (p : FunctionsByPath Place)
       → HasTree says (Named numbering) HasSomeLabel (seen s) root text → StandsFor s.program root t
       → IsProgramOf {N = by_handle} same_value (key_at s.types) numbered t p
       → p ≡ program_said numbered (regions_below text)

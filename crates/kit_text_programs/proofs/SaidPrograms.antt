@@ -3,7 +3,7 @@ use Rattle.std.proofs.Common.{ℕ, Bool, false, ◌&&◌, List, [], ◌∷◌, m
 use Rattle.std.specs.Prelude.{nat_eq, reverse, option_and_then, unwrap_or, if◌then◌else◌}
 use Rattle.ir_forest.specs.Closed.{blocks_among}
 use Rattle.ir_names.specs.Tree.{node, a_tree}
-use Rattle.ir_print.specs.Pieces.{type_of_kind, attribute_of_kind, operands, successor, name, number, width, ValueTree, Pieces}
+use Rattle.ir_print.specs.Pieces.{value_of_kind, operands, successor, leaf, name, number, width, ValueTree, Pieces}
 use Rattle.ir_print.specs.Pieces.{operation, a_region, block, Entity, entity, Entities, no_entity, an_entity}
 use Rattle.kit_ops.specs.declared.kinds.KitOp.{KitOp}
 use Rattle.kit_ops.specs.declared.kinds.KitOp.TheVariants as ops
@@ -14,22 +14,23 @@ use Rattle.kit_checks.specs.Words.{segment, sizes_or_none}
 use Rattle.kit_behaviour.specs.Machine.{Calculated, Compared}
 use Rattle.kit_behaviour.specs.Machine.{Edge, Plain, Nonzero, Op, Const, Calc, Emit, Call, Branch, Return, Fun, FunctionsByPath}
 use Rattle.kit_behaviour.specs.Numbering.{index_of, place_fun}
+use Rattle.ir_print.specs.declared.format.ValueSort.TheVariants as sorts
 use Rattle.kit_behaviour.specs.Places.{Place}
 
 -- the width of an integer type; 0 of any other
 abbrev pub width_said : ValueTree → ℕ
-width_said (node (type_of_kind n) (a_tree (node (width sign bits) us) ts)) = bits
+width_said (node (value_of_kind sorts.«Type» n) (a_tree (node (leaf (width sign bits)) us) ts)) = bits
 width_said _ = 0
 
 -- the bits of the integer that a constant says
 abbrev pub bits_said : Pieces → ℕ
-bits_said (a_tree (node (attribute_of_kind n) (a_tree (node (number b m) us) (a_tree (node (width s w) vs) ws))) ts) =
+bits_said (a_tree (node (value_of_kind sorts.Attribute n) (a_tree (node (leaf (number b m)) us) (a_tree (node (leaf (width s w)) vs) ws))) ts) =
     number_modulo w (record { is_negative = b; magnitude = m })
 bits_said _ = 0
 
 -- the name that comes first
 abbrev pub name_said : Pieces → List ℕ
-name_said (a_tree (node (name cs) us) ts) = cs
+name_said (a_tree (node (leaf (name cs)) us) ts) = cs
 name_said _ = []
 
 -- the first and the second of a list; 0 where there is none

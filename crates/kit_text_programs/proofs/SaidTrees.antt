@@ -17,6 +17,7 @@ use Rattle.ir_trees.specs.Stands.{first_operation}
 use Rattle.ir_trees.specs.Stands.{first_block, first_region, ProgramHead, StandsFor}
 use Rattle.ir_trees.specs.Trees.{Operations, Blocks, Regions}
 use Rattle.ir_types.specs.Interned.{key_at}
+use Rattle.kit.specs.Context.{KitContext, KitTree}
 use Rattle.text_dialect.specs.Seen.{SeenOperation, SeenBlock, seen, seen_operation, seen_block, types_of}
 use Rattle.text_dialect.specs.Standing.{HasDefinition, HasHead, HasTree, HaveRegionTrees, HaveBlockTrees, HaveTrees}
 use Rattle.text_rereading.specs.Rereading.{Numbering, Named}
@@ -28,7 +29,6 @@ use Rattle.kit.specs.Says.{says}
 use Rattle.kit_checks.specs.Rules.{IsCommon}
 use Rattle.kit_checks.specs.Words.{Every, integer_in}
 use Rattle.kit_checks.specs.World.{Attributes, world_of}
-use Rattle.kit_writable_trees.specs.Laws.{WritableContext, WritableTree}
 use Rattle.kit_text_programs.specs.Laws.{HaveOwnNumbers}
 use Rattle.kit.specs.Readable.{numbered_kind}
 use Rattle.kit_text_programs.proofs.SaidHeads.{said_parts}
@@ -70,7 +70,7 @@ none_but_common : (es : Attributes) → length es ≡ 0 → Every IsCommon es
 none_but_common [] e = λ k x at. cc
 none_but_common (x ∷ es) e = absurd (omega arith)
 
-module _ (s z : WritableContext) (numbering others : Numbering) (own : HaveOwnNumbers numbering)
+module _ (s z : KitContext) (numbering others : Numbering) (own : HaveOwnNumbers numbering)
     (owns : HaveOwnNumbers others) where
   abbrev OfTypes : TypeHandle → TypeHandle → Type 0
   OfTypes = IsSameType (key_at s.types) (key_at z.types)
@@ -270,7 +270,7 @@ module _ (s z : WritableContext) (numbering others : Numbering) (own : HaveOwnNu
         absurd h.0
 
   -- the trees that stand for one text are alike
-  pub trees_alike : (text : Entity ℕ) (root other : Ptr Operation) (t u : WritableTree)
+  pub trees_alike : (text : Entity ℕ) (root other : Ptr Operation) (t u : KitTree)
       → HasTree says (Named numbering) HasSomeLabel (seen s) root text
       → HasTree says (Named others) HasSomeLabel (seen z) other text → StandsFor s.program root t
       → StandsFor z.program other u → IsWritten s t → IsWritten z u → AreAlikeIn s z numbering others t u

@@ -6,9 +6,9 @@ use Rattle.std.proofs.lemmas.Option.{none-some, same_Some, some_pair_parts}
 use Rattle.ir_base.specs.declared.types.TypeHandle.{TypeHandle}
 use Rattle.ir_names.specs.declared.kinds.Signedness.{Signedness}
 use Rattle.ir_names.specs.Tree.{LabelledTree, Trees, node, no_tree, a_tree}
-use Rattle.ir_print.specs.Pieces.{type_of_kind, attribute_of_kind, list, item, operands, successor, region, name, number, width}
+use Rattle.ir_print.specs.Pieces.{value_of_kind, list, item, operands, successor, region, leaf, width}
 use Rattle.ir_print.specs.Pieces.{ValueTree, Pieces}
-use Rattle.ir_print.specs.Shown.{Said, said_type, said_list, said_item, said_width, leaf, Pairs, Shows, ShowsAll}
+use Rattle.ir_print.specs.Shown.{Said, said_type, said_list, said_item, said_leaf, alone, Pairs, Shows, ShowsAll}
 use Rattle.ir_print.specs.Shown.{ShowsType}
 use Rattle.kit_ops.specs.declared.attributes.KitAttr.{KitAttr}
 use Rattle.kit_ops.specs.declared.types.FunctionType.{FunctionType}
@@ -19,6 +19,7 @@ use Rattle.kit_checks.specs.Words.{integer_of, function_of}
 use Rattle.kit.specs.Says.{says, one, two, only, types_said, said_of_type}
 use Rattle.kit.specs.Seen.{one_seen}
 use Rattle.kit_text_programs.specs.Alike.{AreBoth}
+use Rattle.ir_print.specs.declared.format.ValueSort.TheVariants as sorts
 use Rattle.kit_text_programs.specs.Same.{HaveOwnHandles, AreSameTypes, none, integers, functions, units, IsSameType}
 
 module _ (leads others : TypeHandle → Option KitType) where
@@ -133,7 +134,7 @@ module _ (leads others : TypeHandle → Option KitType) where
 
 -- ---- types that are shown
 
-said_one : (a b : TypeHandle) → ◌≡◌ {A = LabelledTree (Said KitAttr)} (leaf (said_type a)) (leaf (said_type b)) → a ≡ b
+said_one : (a b : TypeHandle) → ◌≡◌ {A = LabelledTree (Said KitAttr)} (alone (said_type a)) (alone (said_type b)) → a ≡ b
 said_one a b e = cc
 
 clash : (n : ℕ) → 0 ≡ n → 1 ≡ n → ⊥
@@ -150,9 +151,9 @@ only_some true o x e = e
 only_some false o x e = absurd (none-some x e)
 
 integer_said : (i : IntegerType) (n : ℕ) (us : Trees (Said KitAttr)) → said_of_type (types.Integer i) ≡ Some (n, us)
-    → (0 ≡ n) × (one (leaf (said_width i.signedness i.width)) ≡ us)
+    → (0 ≡ n) × (one (alone (said_leaf (width i.signedness i.width))) ≡ us)
 integer_said i n us e =
-    let said : Trees (Said KitAttr) = one (leaf (said_width i.signedness i.width)) in
+    let said : Trees (Said KitAttr) = one (alone (said_leaf (width i.signedness i.width))) in
     some_pair_parts 0 n said us
     (only_some {X = ℕ × Trees (Said KitAttr)} (nat_lt i.width (2 ^ 32)) (Some (0, said)) (n, us) e)
 
@@ -166,8 +167,8 @@ function_said f n us e =
 unit_said : (n : ℕ) (us : Trees (Said KitAttr)) → said_of_type types.Unit ≡ Some (n, us) → 2 ≡ n
 unit_said n us e = let said : Trees (Said KitAttr) = no_tree in (some_pair_parts 2 n said us e).0
 
-width_one : (s t : Signedness) (v w : ℕ) (us ts : Pieces) (p q : ValueTree) → p ≡ node (width s v) us
-    → q ≡ node (width t w) ts → ◌≡◌ {A = Pieces} (a_tree p no_tree) (a_tree q no_tree) → (s ≡ t) × (v ≡ w)
+width_one : (s t : Signedness) (v w : ℕ) (us ts : Pieces) (p q : ValueTree) → p ≡ node (leaf (width s v)) us
+    → q ≡ node (leaf (width t w)) ts → ◌≡◌ {A = Pieces} (a_tree p no_tree) (a_tree q no_tree) → (s ≡ t) × (v ≡ w)
 width_one s t v w us ts p q e f h =
     let same : p ≡ q = cc in
     let signs : s ≡ t = cc in
@@ -184,11 +185,11 @@ module _ (keys others : List KitType) where
   abbrev Both : List TypeHandle → List TypeHandle → Type 0
   Both = AreSameTypes (leads_to keys) (leads_to others)
 
-  widths_same : (i j : IntegerType) (ts : Pieces) → ShowsAll says keys (one (leaf (said_width i.signedness i.width))) ts
-      → ShowsAll says others (one (leaf (said_width j.signedness j.width))) ts → i ≡ j
+  widths_same : (i j : IntegerType) (ts : Pieces) → ShowsAll says keys (one (alone (said_leaf (width i.signedness i.width)))) ts
+      → ShowsAll says others (one (alone (said_leaf (width j.signedness j.width)))) ts → i ≡ j
   widths_same i j ts h k =
-      let a = one_seen says keys (leaf (said_width i.signedness i.width)) ts h in
-      let b = one_seen says others (leaf (said_width j.signedness j.width)) ts k in
+      let a = one_seen says keys (alone (said_leaf (width i.signedness i.width))) ts h in
+      let b = one_seen says others (alone (said_leaf (width j.signedness j.width))) ts k in
       let same = width_one i.signedness j.signedness i.width j.width a.2.0 b.2.0 a.0 b.0 a.2.1 b.2.1 (sym a.1 ∙ b.1) in
       integer_one i j same.0 same.1
 
@@ -204,18 +205,16 @@ module _ (keys others : List KitType) where
     -- a type that is shown by a tree in both contexts is the same
     pub type_same : (t : ValueTree) (a c : TypeHandle) → ShowsType says keys a t → ShowsType says others c t
         → Both (a ∷ []) (c ∷ [])
-    type_same (node (type_of_kind n) ts) a c (x, key, us, e, at, says_it, all) (y, other, vs, f, there, says_too, too) =
+    type_same (node (value_of_kind sorts.«Type» n) ts) a c (x, key, us, e, at, says_it, all) (y, other, vs, f, there, says_too, too) =
         key_same ts n a c key other us vs (ap (leads_to keys) (said_one a x e) ∙ at)
         (ap (leads_to others) (said_one c y f) ∙ there) says_it says_too all too
-    type_same (node (attribute_of_kind n) ts) a c h k = let e = h.2 in absurd cc
+    type_same (node (value_of_kind sorts.Attribute n) ts) a c h k = let e = h.2 in absurd cc
     type_same (node list ts) a c h k = let e = h.1 in absurd cc
     type_same (node item ts) a c h k = let e = h.1 in absurd cc
     type_same (node (operands n) ts) a c h k = absurd cc
     type_same (node (successor n) ts) a c h k = absurd cc
     type_same (node region ts) a c h k = absurd cc
-    type_same (node (name cs) ts) a c h k = absurd cc
-    type_same (node (number b m) ts) a c h k = absurd cc
-    type_same (node (width s w) ts) a c h k = absurd cc
+    type_same (node (leaf x) ts) a c h k = absurd cc
 
     key_same : (ts : Pieces) (n : ℕ) (a c : TypeHandle) (key other : KitType) (us vs : Trees (Said KitAttr))
         → leads_to keys a ≡ Some key → leads_to others c ≡ Some other → said_of_type key ≡ Some (n, us)
@@ -259,15 +258,13 @@ module _ (keys others : List KitType) where
         types_same ts xs ys (subst (λ (z : Trees (Said KitAttr)). ShowsAll says keys z ts) (list_inside
         (types_said xs) us e) h)
         (subst (λ (z : Trees (Said KitAttr)). ShowsAll says others z ts) (list_inside (types_said ys) vs f) k)
-    list_same (node (type_of_kind n) ts) xs ys h k = let e = h.3 in absurd cc
-    list_same (node (attribute_of_kind n) ts) xs ys h k = let e = h.2 in absurd cc
+    list_same (node (value_of_kind sorts.«Type» n) ts) xs ys h k = let e = h.3 in absurd cc
+    list_same (node (value_of_kind sorts.Attribute n) ts) xs ys h k = let e = h.2 in absurd cc
     list_same (node item ts) xs ys h k = let e = h.1 in absurd cc
     list_same (node (operands n) ts) xs ys h k = absurd cc
     list_same (node (successor n) ts) xs ys h k = absurd cc
     list_same (node region ts) xs ys h k = absurd cc
-    list_same (node (name cs) ts) xs ys h k = absurd cc
-    list_same (node (number b m) ts) xs ys h k = absurd cc
-    list_same (node (width s w) ts) xs ys h k = absurd cc
+    list_same (node (leaf x) ts) xs ys h k = absurd cc
 
     types_same : (ts : Pieces) (xs ys : List TypeHandle) → ShowsAll says keys (types_said xs) ts
         → ShowsAll says others (types_said ys) ts → Both xs ys
@@ -279,24 +276,22 @@ module _ (keys others : List KitType) where
     types_same (a_tree t ts) (x ∷ xs) (y ∷ ys) h k =
         in_front (leads_to keys) (leads_to others) x y xs ys (item_same t x y h.0 k.0) (types_same ts xs ys h.1 k.1)
 
-    item_same : (t : ValueTree) (a c : TypeHandle) → Shows says keys (node said_item (one (leaf (said_type a)))) t
-        → Shows says others (node said_item (one (leaf (said_type c)))) t → Both (a ∷ []) (c ∷ [])
+    item_same : (t : ValueTree) (a c : TypeHandle) → Shows says keys (node said_item (one (alone (said_type a)))) t
+        → Shows says others (node said_item (one (alone (said_type c)))) t → Both (a ∷ []) (c ∷ [])
     item_same (node item ts) a c (us, e, h) (vs, f, k) =
         one_same ts a c (subst (λ (z : Trees (Said KitAttr)). ShowsAll says keys z ts)
-        (item_inside (one (leaf (said_type a))) us e) h)
-        (subst (λ (z : Trees (Said KitAttr)). ShowsAll says others z ts) (item_inside (one (leaf
+        (item_inside (one (alone (said_type a))) us e) h)
+        (subst (λ (z : Trees (Said KitAttr)). ShowsAll says others z ts) (item_inside (one (alone
         (said_type c))) vs f) k)
-    item_same (node (type_of_kind n) ts) a c h k = let e = h.3 in absurd cc
-    item_same (node (attribute_of_kind n) ts) a c h k = let e = h.2 in absurd cc
+    item_same (node (value_of_kind sorts.«Type» n) ts) a c h k = let e = h.3 in absurd cc
+    item_same (node (value_of_kind sorts.Attribute n) ts) a c h k = let e = h.2 in absurd cc
     item_same (node list ts) a c h k = let e = h.1 in absurd cc
     item_same (node (operands n) ts) a c h k = absurd cc
     item_same (node (successor n) ts) a c h k = absurd cc
     item_same (node region ts) a c h k = absurd cc
-    item_same (node (name cs) ts) a c h k = absurd cc
-    item_same (node (number b m) ts) a c h k = absurd cc
-    item_same (node (width s w) ts) a c h k = absurd cc
+    item_same (node (leaf x) ts) a c h k = absurd cc
 
-    one_same : (ts : Pieces) (a c : TypeHandle) → ShowsAll says keys (one (leaf (said_type a))) ts
-        → ShowsAll says others (one (leaf (said_type c))) ts → Both (a ∷ []) (c ∷ [])
+    one_same : (ts : Pieces) (a c : TypeHandle) → ShowsAll says keys (one (alone (said_type a))) ts
+        → ShowsAll says others (one (alone (said_type c))) ts → Both (a ∷ []) (c ∷ [])
     one_same no_tree a c h k = absurd h
     one_same (a_tree t ts) a c h k = type_same t a c h.0 k.0

@@ -8,6 +8,7 @@ use Rattle.ir_program.specs.declared.handles.Ptr.{Ptr}
 use Rattle.ir_program.specs.declared.handles.Value.{Value}
 use Rattle.ir_trees.specs.Stands.{ProgramTree}
 use Rattle.ir_types.specs.Interned.{key_at}
+use Rattle.kit.specs.Context.{KitContext, KitTree}
 use Rattle.kit_checks.specs.declared.rule.Rule.{Rule}
 use Rattle.kit_checks.specs.declared.rule.Rule.TheVariants as rule
 use Rattle.kit_checks.specs.Faults.{Keeps, KeptEverywhere, IsFirstFault}
@@ -15,7 +16,6 @@ use Rattle.kit_checks.specs.Numbers.{number_of}
 use Rattle.kit_checks.specs.Sites.{Site, site_at}
 use Rattle.kit_checks.specs.World.{World, world_of}
 use Rattle.text_rereading.specs.Rereading.{Numbering}
-use Rattle.kit_writable_trees.specs.Laws.{WritableContext, WritableTree}
 use Rattle.kit_text_programs.specs.Laws.{HaveOwnNumbers}
 use Rattle.kit_text_programs.specs.Alike.{BelongTogether, AreTrees, AreSitesAlike, AreVisibleFirst}
 use Rattle.kit_text_programs.specs.Same.{HaveOwnHandles, IsSameType, IsSameValue, IsSameBlock}
@@ -100,7 +100,7 @@ module _ {O B P C : Type 0} (w : World O B) (x : World P C) (OfTypes Types : Typ
       z = there w x OfTypes OfValues OfBlocks agree t u trees p fault.first.breaks.site fault.first.breaks.there
 
 -- types and values of two contexts belong together
-pub together : (s z : WritableContext) (numbering others : Numbering) → HaveOwnHandles (key_at s.types)
+pub together : (s z : KitContext) (numbering others : Numbering) → HaveOwnHandles (key_at s.types)
     → HaveOwnHandles (key_at z.types)
     → HaveOwnNumbers numbering → HaveOwnNumbers others
     → BelongTogether (world_of s) (world_of z) (IsSameType (key_at s.types) (key_at z.types))
@@ -125,7 +125,7 @@ together s z numbering others handles again own owns = record {
         let same : h.0 ≡ k.0 = owns.blocks h.0 k.0 d (subst (λ x. slice_get others.blocks h.0 ≡ Some x) e h.2) k.2 in
         same_Some a b (sym h.1 ∙ ap (slice_get numbering.blocks) same ∙ k.1)
 
-pub one_verdict : (s z : WritableContext) (numbering others : Numbering) (t u : WritableTree) → HaveOwnNumbers numbering
+pub one_verdict : (s z : KitContext) (numbering others : Numbering) (t u : KitTree) → HaveOwnNumbers numbering
     → HaveOwnNumbers others → AreAlikeIn s z numbering others t u → AreAlikeIn z s others numbering u t → HasOneHandleEach s
     → HasOneHandleEach z → HasVerdictOf s z t u
 one_verdict s z numbering others t u own owns trees back handles again = record {

@@ -6,6 +6,7 @@ use Rattle.ir_program.specs.declared.handles.Value.{Value}
 use Rattle.ir_trees.specs.Stands.{by_handle, in_program}
 use Rattle.ir_trees.specs.Trees.{Defined, Sort, end, operation, block, region}
 use Rattle.ir_types.specs.Interned.{key_at}
+use Rattle.kit.specs.Context.{KitContext, KitTree}
 use Rattle.opt_trees.specs.Occurrences.{Has, Occurrence, BlockOccurrence, Inside, inner, next_block, next_region}
 use Rattle.opt_trees.specs.Occurrences.{at_root}
 use Rattle.opt_trees.specs.Occurrences.{occurrences_in, block_occurrences_in}
@@ -17,28 +18,27 @@ use Rattle.kit_ops.specs.contracts.types.KitTypeEq.TheImpl.Laws as type_laws
 use Rattle.kit_ops.specs.declared.types.KitType.{KitType}
 use Rattle.kit_ops.specs.declared.types.KitType.TheVariants as types
 use Rattle.kit_checks.specs.Sites.{Listed}
-use Rattle.kit_writable_trees.specs.Laws.{WritableContext, WritableTree}
 use Rattle.kit_text_programs.specs.RuleLaws.{HasOneHandleEach, HaveWrittenTypes}
 use Rattle.kit_text_programs.specs.Same.{AreSameKeys, HaveOwnHandles}
 
 -- these results or arguments have the types that are written there
-abbrev pub HasWrittenTypes : WritableContext → List (Defined Value TypeHandle) → Type 0
+abbrev pub HasWrittenTypes : KitContext → List (Defined Value TypeHandle) → Type 0
 HasWrittenTypes s [] = Unit {0}
 HasWrittenTypes s (d ∷ ds) = (type_at s.program d.name ≡ Some d.holds) × HasWrittenTypes s ds
 
 -- so have all in these operations, blocks or regions
-abbrev pub AreWritten : WritableContext → {k : Sort} → Listed KitOperation KitBlock k → Type 0
+abbrev pub AreWritten : KitContext → {k : Sort} → Listed KitOperation KitBlock k → Type 0
 AreWritten s end = Unit {0}
 AreWritten s (operation h rs rest) = HasWrittenTypes s h.results × AreWritten s rs × AreWritten s rest
 AreWritten s (block l os rest) = HasWrittenTypes s l.arguments × AreWritten s os × AreWritten s rest
 AreWritten s (region bs rest) = AreWritten s bs × AreWritten s rest
 
 -- and in this operation, itself too
-pub record IsWritten (s : WritableContext) (t : WritableTree) : Type 0 where
+pub record IsWritten (s : KitContext) (t : KitTree) : Type 0 where
   pub results : HasWrittenTypes s t.head.results
   pub inside : AreWritten s t.regions
 
-module _ (s : WritableContext) where
+module _ (s : KitContext) where
   abbrev IsTyped : Defined Value TypeHandle → Type 0
   IsTyped d = type_at s.program d.name ≡ Some d.holds
 
@@ -88,7 +88,7 @@ module _ (s : WritableContext) where
         (λ o i. b o (has-right o (block_occurrences_in bs c) (block_occurrences_in rest (next_region c)) i)),
   )
 
-  pub all_written : (t : WritableTree) → HaveWrittenTypes s t → IsWritten s t
+  pub all_written : (t : KitTree) → HaveWrittenTypes s t → IsWritten s t
   all_written t h = record {
     results = list_written t.head.results h.results;
     inside = tree_written t.regions (at_root t) h.inside.results h.inside.arguments;

@@ -9,6 +9,7 @@ use Rattle.ir_program.specs.declared.handles.Value.{Value}
 use Rattle.ir_program.specs.Replacing.{same_value}
 use Rattle.ir_trees.specs.Stands.{by_handle, StandsFor}
 use Rattle.ir_types.specs.Interned.{key_at}
+use Rattle.kit.specs.Context.{KitContext, KitTree}
 use Rattle.text_dialect.specs.Seen.{seen}
 use Rattle.text_dialect.specs.Standing.{StandsForTexts}
 use Rattle.text_rereading.specs.Rereading.{Numbering, Named}
@@ -16,7 +17,6 @@ use Rattle.kit_behaviour.specs.Machine.{FunctionsByPath}
 use Rattle.kit_behaviour.specs.Places.{Place}
 use Rattle.kit.specs.Says.{says}
 use Rattle.kit_ruled_views.specs.Programs.{IsProgramOf}
-use Rattle.kit_writable_trees.specs.Laws.{WritableContext, WritableTree}
 
 -- no two of the values have one number, and no block comes twice
 pub record HaveOwnNumbers (numbering : Numbering) : Type 0 where
@@ -27,8 +27,8 @@ pub record HaveOwnNumbers (numbering : Numbering) : Type 0 where
 
 -- modules that stand in two contexts for trees of texts that are the same but for their labels have the same program
 abbrev pub TextsHaveOneProgram : Type 0
-TextsHaveOneProgram = (text other_text : Entity ℕ) (numbered : List ℕ → ℕ) (s z : WritableContext)
-    (root other : Ptr Operation) (numbering others : Numbering) (t u : WritableTree) (p q : FunctionsByPath Place) →
+TextsHaveOneProgram = (text other_text : Entity ℕ) (numbered : List ℕ → ℕ) (s z : KitContext)
+    (root other : Ptr Operation) (numbering others : Numbering) (t u : KitTree) (p q : FunctionsByPath Place) →
     IsSameModule text other_text → HaveOwnNumbers numbering → HaveOwnNumbers others →
     StandsForTexts says (Named numbering) (seen s) root text →
     StandsForTexts says (Named others) (seen z) other other_text →

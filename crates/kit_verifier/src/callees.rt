@@ -11,6 +11,7 @@ ghost use Rattle.opt_trees.specs.Occurrences.{Has};
 use crate::reading::{kind_of, text_under, type_under};
 use indexmap::IndexSet;
 use ir_context::{Context, OperationCalls};
+use ir_hashing::TextKey;
 use ir_names::TypeHandle;
 use ir_program::{IRNode, Operation, Ptr};
 use kit::Kit;
@@ -47,7 +48,10 @@ pub(crate) fn callee_from<'a>(
 }
 
 /// Puts a function to others.
-fn add_callee<'a>(callees: &mut IndexSet<Callee<'a>>, callee: Callee<'a>) -> Result<(), AllocError>
+fn add_callee<'a>(
+    callees: &mut IndexSet<Callee<'a>, TextKey>,
+    callee: Callee<'a>,
+) -> Result<(), AllocError>
     ensures { OnOk result (Gains (callables_of callees.old.keys) (callables_of callees.new.keys)
         (λ q. q ≡ callable_of callee.entry)) }
 {
@@ -56,7 +60,7 @@ fn add_callee<'a>(callees: &mut IndexSet<Callee<'a>>, callee: Callee<'a>) -> Res
 }
 
 /// Whether there is such a function.
-pub(crate) fn has_callee<'a>(callees: &IndexSet<Callee<'a>>, callee: Callee<'a>) -> bool
+pub(crate) fn has_callee<'a>(callees: &IndexSet<Callee<'a>, TextKey>, callee: Callee<'a>) -> bool
     ensures { IsTrue result ↔ Has (callable_of callee.entry) (callables_of callees.now.keys) }
 {
     callees.contains(&callee)
@@ -81,7 +85,7 @@ fn callee_of<'a>(ctx: &'a Context<Kit>, op: Ptr<Operation>) -> Option<Callee<'a>
 /// Puts an entity to the functions that can be called, if it is one.
 pub(crate) fn add_callee_at<'a>(
     ctx: &'a Context<Kit>,
-    callees: &mut IndexSet<Callee<'a>>,
+    callees: &mut IndexSet<Callee<'a>, TextKey>,
     node: IRNode,
 ) -> Result<(), AllocError>
     requires { IsLiveNode ctx.now.program node }
@@ -105,12 +109,12 @@ pub(crate) fn callees_inside<'a>(
     alloc: Global,
     ctx: &'a Context<Kit>,
     root: Ptr<Operation>,
-) -> Result<IndexSet<Callee<'a>>, AllocError>
+) -> Result<IndexSet<Callee<'a>, TextKey>, AllocError>
     requires { IsSome (operation_at ctx.now.program root) }
     ensures { IfOk result (λ callees. AreCallees (world_of ctx.now) ctx.now.program root (callables_of callees.keys)) }
 {
     let program = ctx.program();
-    let mut callees = IndexSet::new(alloc);
+    let mut callees = IndexSet::with_hasher(alloc, ctx.hash_key());
     for node in program.nodes_inside(IRNode::Operation(root)) {
         add_callee_at(ctx, &mut callees, node)?;
     }

@@ -19,6 +19,7 @@ use crate::scopes::nearest_module;
 use crate::signatures::has_signature;
 use indexmap::IndexSet;
 use ir_context::Context;
+use ir_hashing::TextKey;
 use ir_program::{IRNode, Operation, Ptr};
 use ir_trees::know_tree;
 use kit::Kit;
@@ -58,7 +59,7 @@ fn called_by<'a>(
 fn calls_function<'a>(
     ctx: &'a Context<Kit>,
     root: Ptr<Operation>,
-    callees: &IndexSet<Callee<'a>>,
+    callees: &IndexSet<Callee<'a>, TextKey>,
     op: Ptr<Operation>,
 ) -> bool
     requires root { IsSome (operation_at ctx.now.program root) }
@@ -84,7 +85,7 @@ fn calls_function<'a>(
 pub(crate) fn calls_fit<'a>(
     ctx: &'a Context<Kit>,
     root: Ptr<Operation>,
-    callees: &IndexSet<Callee<'a>>,
+    callees: &IndexSet<Callee<'a>, TextKey>,
     op: Ptr<Operation>,
 ) -> bool
     requires root { IsSome (operation_at ctx.now.program root) }
@@ -103,7 +104,7 @@ pub(crate) fn calls_fit<'a>(
 pub(crate) fn all_fit<'a>(
     ctx: &'a Context<Kit>,
     root: Ptr<Operation>,
-    callees: &IndexSet<Callee<'a>>,
+    callees: &IndexSet<Callee<'a>, TextKey>,
     calls: &[Ptr<Operation>],
 ) -> bool
     requires root { IsSome (operation_at ctx.now.program root) }

@@ -20,6 +20,7 @@ use crate::reading::kind_of;
 use crate::symbols::holds_symbols;
 use indexmap::IndexSet;
 use ir_context::Context;
+use ir_hashing::TextKey;
 use ir_program::{IRNode, Operation, Ptr};
 use ir_trees::know_tree;
 use kit::Kit;
@@ -30,7 +31,7 @@ use std::alloc::{AllocError, Global};
 #[derive(Drop)]
 struct CallsInside<'a> {
     /// The functions that can be called.
-    callees: IndexSet<Callee<'a>>,
+    callees: IndexSet<Callee<'a>, TextKey>,
     /// The calls, in walk order.
     calls: Vec<Ptr<Operation>>,
 }
@@ -57,7 +58,7 @@ fn add_call(calls: &mut Vec<Ptr<Operation>>, op: Ptr<Operation>) -> Result<(), A
 /// module's body if it is a module.
 fn gather_operation<'a>(
     ctx: &'a Context<Kit>,
-    callees: &mut IndexSet<Callee<'a>>,
+    callees: &mut IndexSet<Callee<'a>, TextKey>,
     calls: &mut Vec<Ptr<Operation>>,
     op: Ptr<Operation>,
 ) -> Result<bool, AllocError>
@@ -87,7 +88,7 @@ fn gather_operation<'a>(
 fn gather_at<'a>(
     alloc: Global,
     ctx: &'a Context<Kit>,
-    callees: &mut IndexSet<Callee<'a>>,
+    callees: &mut IndexSet<Callee<'a>, TextKey>,
     calls: &mut Vec<Ptr<Operation>>,
     node: IRNode,
 ) -> Result<bool, AllocError>
@@ -119,7 +120,7 @@ fn gather<'a>(
     ensures { IfOk result (IsGathered (world_of ctx.now) ctx.now.program root) }
 {
     let program = ctx.program();
-    let mut callees = IndexSet::new(alloc);
+    let mut callees = IndexSet::with_hasher(alloc, ctx.hash_key());
     let mut calls = Vec::new(alloc);
     for node in program.nodes_inside(IRNode::Operation(root)) {
         let holds = gather_at(alloc, ctx, &mut callees, &mut calls, node)?;

@@ -13,13 +13,14 @@ ghost use Rattle.opt_trees.specs.Occurrences.{Has};
 use crate::reading::text_under;
 use indexmap::IndexSet;
 use ir_context::Context;
+use ir_hashing::TextKey;
 use ir_program::{BasicBlock, IRNode, Operation, Ptr};
 use kit::Kit;
 use kit_ops::keys;
 use std::alloc::{AllocError, Global};
 
 /// Puts a text to others. It answers whether it was one of them.
-fn add_text<'a>(texts: &mut IndexSet<&'a str>, text: &'a str) -> Result<bool, AllocError>
+fn add_text<'a>(texts: &mut IndexSet<&'a str, TextKey>, text: &'a str) -> Result<bool, AllocError>
     ensures known { IfOk result (λ is. IsTrue is ↔ Has text.now (texts_of texts.old.keys)) }
     ensures texts { OnOk result (Gains (texts_of texts.old.keys) (texts_of texts.new.keys) (λ t. t ≡ text.now)) }
 {
@@ -40,7 +41,7 @@ fn add_operation(
 /// Whether an operation has a name that is among these. Its name is put to them.
 pub(crate) fn is_repeat<'a>(
     ctx: &'a Context<Kit>,
-    names: &mut IndexSet<&'a str>,
+    names: &mut IndexSet<&'a str, TextKey>,
     op: Ptr<Operation>,
 ) -> Result<bool, AllocError>
     requires { IsSome (operation_at ctx.now.program op) }
@@ -58,7 +59,7 @@ pub(crate) fn is_repeat<'a>(
 /// Puts an operation to others if it has a name that is among these. Its name is put to them.
 fn add_if_repeat<'a>(
     ctx: &'a Context<Kit>,
-    names: &mut IndexSet<&'a str>,
+    names: &mut IndexSet<&'a str, TextKey>,
     repeats: &mut IndexSet<Ptr<Operation>>,
     op: Ptr<Operation>,
 ) -> Result<(), AllocError>
@@ -87,7 +88,7 @@ fn add_repeats(
 {
     let program = ctx.program();
     program.know_lists();
-    let mut names = IndexSet::new(alloc);
+    let mut names = IndexSet::with_hasher(alloc, ctx.hash_key());
     for op in program.operations(block) {
         add_if_repeat(ctx, &mut names, repeats, op)?;
     }

@@ -12,6 +12,7 @@ use crate::reading::kind_of;
 use crate::repeats::is_repeat;
 use indexmap::IndexSet;
 use ir_context::{BlockCalls, Context};
+use ir_hashing::TextKey;
 use ir_program::{BasicBlock, Operation, Ptr};
 use kit::Kit;
 use kit_checks::{is_module, is_symbol};
@@ -31,7 +32,7 @@ fn is_of_module(ctx: &Context<Kit>, block: Ptr<BasicBlock>) -> bool
 /// Whether an operation is a module or a function whose name is none of these. Where it is, its name is put to them.
 fn is_new_symbol<'a>(
     ctx: &'a Context<Kit>,
-    names: &mut IndexSet<&'a str>,
+    names: &mut IndexSet<&'a str, TextKey>,
     op: Ptr<Operation>,
 ) -> Result<bool, AllocError>
     requires { IsSome (operation_at ctx.now.program op) }
@@ -59,7 +60,7 @@ fn are_symbols(
 {
     let program = ctx.program();
     program.know_lists();
-    let mut names = IndexSet::new(alloc);
+    let mut names = IndexSet::with_hasher(alloc, ctx.hash_key());
     for op in program.operations(block) {
         let is_new = is_new_symbol(ctx, &mut names, op)?;
         if !is_new {

@@ -12,6 +12,7 @@ use crate::calls::calls_fit;
 use crate::modules::module_holds;
 use indexmap::IndexSet;
 use ir_context::Context;
+use ir_hashing::TextKey;
 use ir_program::{Operation, Ptr};
 use kit::Kit;
 
@@ -21,7 +22,7 @@ pub(crate) enum Table<'a> {
     /// For what modules hold: the operations that have the name of an earlier one of their block.
     Repeats(IndexSet<Ptr<Operation>>),
     /// For calls: the functions that can be called.
-    Callees(IndexSet<Callee<'a>>),
+    Callees(IndexSet<Callee<'a>, TextKey>),
 }
 
 /// Whether an operation inside the root keeps the rule that the table is for.

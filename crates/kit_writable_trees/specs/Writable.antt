@@ -1,18 +1,16 @@
 -- Which trees of operations of `kit` can be written as texts. What is asked is said of each operation, block and region by
 -- itself, in the places where it stands; that operands are in scope, and that edges stay in their region, the rules of the
 -- dialect say.
-use Rattle.std.specs.Prelude.{◌≡◌, ℕ, suc, ◌++◌, List, [], ◌∷◌, map, Option, Some, None, length, slice_get}
+use Rattle.std.specs.Prelude.{◌≡◌, ℕ, suc, List, [], map, Some, length, slice_get}
 use Rattle.ir_base.specs.declared.types.TypeHandle.{TypeHandle}
-use Rattle.ir_names.specs.declared.identifier.Identifier.{Identifier}
-use Rattle.ir_names.specs.Identifier.{text_of}
 use Rattle.ir_names.specs.Tree.{Trees}
 use Rattle.ir_print.specs.Layout.{Deeper, IsFlat, AreFlat}
 use Rattle.ir_print.specs.Pieces.{ValueTree, Pieces}
 use Rattle.ir_print.specs.Shown.{Said, Pairs, ShowsAll, ShowsType, successors_said}
 use Rattle.ir_forest.specs.Bare.{IsBare, AreBare}
-use Rattle.ir_forest.specs.Closed.{AllDistinct, regions_said}
+use Rattle.ir_forest.specs.Closed.{regions_said}
 use Rattle.ir_trees.specs.Names.{Names}
-use Rattle.ir_trees.specs.Trees.{Defined, Head, Label, Sort, Blocks, Regions, Tree, end, operation, block, region, Root}
+use Rattle.ir_trees.specs.Trees.{Defined, Head, Label, Sort, Regions, Tree, end, operation, block, region, Root}
 use Rattle.kit_ops.specs.declared.attributes.KitAttr.{KitAttr}
 use Rattle.kit_ops.specs.declared.types.KitType.{KitType}
 use Rattle.kit.specs.Says.{says, values}
@@ -26,16 +24,6 @@ types_in ds = map (λ d. d.holds) ds
 abbrev pub count_of : {N : Names} → Tree N kit_contents Regions → ℕ
 count_of end = 0
 count_of (region bs rest) = suc (count_of rest)
-
--- the label of a block, if it has one
-abbrev pub label_text : Option Identifier → List (List ℕ)
-label_text None = []
-label_text (Some id) = text_of id ∷ []
-
--- the labels of these blocks
-abbrev pub labels_in : {N : Names} → Tree N kit_contents Blocks → List (List ℕ)
-labels_in end = []
-labels_in (block l os rest) = label_text l.content.label ++ labels_in rest
 
 -- these types, which a context has under the numbers of their handles, are written so; at most d types and attributes stand
 -- in one another
@@ -63,19 +51,17 @@ module _ {N : Names} (types : List KitType) where
     pub bare : AreBare pieces
     pub counted : successors_said pieces ≡ length h.successors
 
-  -- the block has a label and no attributes, and the types of its arguments have texts
+  -- the block has no attributes, and the types of its arguments have texts
   pub record IsWritableLabel (d : ℕ) (l : Label N kit_contents) : Type 0 where
-    pub labelled : (id : Identifier) × (l.content.label ≡ Some id)
     pub no_attributes : l.content.attributes ≡ []
     pub arguments : AreWritten types d (types_in l.arguments)
 
-  -- each operation and each block is so, no two blocks of a region have one label, and at most d regions, types and attributes stand
-  -- in one another
+  -- each operation and each block is so, and at most d regions, types and attributes stand in one another
   abbrev pub IsWritable : {s : Sort} → ℕ → Tree N kit_contents s → Type 0
   IsWritable d end = Unit {0}
   IsWritable d (operation h rs rest) = IsWritableHead d (count_of rs) h × IsWritable d rs × IsWritable d rest
   IsWritable d (block l os rest) = IsWritableLabel d l × IsWritable d os × IsWritable d rest
-  IsWritable d (region bs rest) = Deeper d (λ e. IsWritable e bs) × AllDistinct (labels_in bs) × IsWritable d rest
+  IsWritable d (region bs rest) = Deeper d (λ e. IsWritable e bs) × IsWritable d rest
 
   -- so it is of an operation with all that is in it, where at most 64 stand in one another
   pub record IsWritableRoot (t : Root N kit_contents) : Type 0 where

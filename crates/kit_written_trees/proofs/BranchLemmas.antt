@@ -11,7 +11,7 @@ use Rattle.ir_names.specs.Tree.{Trees, node, no_tree, a_tree}
 use Rattle.ir_names.specs.declared.interfaces.OpInterface.TheVariants as op
 use Rattle.ir_forest.specs.Closed.{regions_said}
 use Rattle.ir_print.specs.Pieces.{operands, successor, ValueTree}
-use Rattle.ir_print.specs.Shown.{Said, said_operands, said_successor, leaf, Pairs, ShowsAll, ShowsType, successors_said}
+use Rattle.ir_print.specs.Shown.{Said, said_operands, said_successor, alone, Pairs, ShowsAll, ShowsType, successors_said}
 use Rattle.ir_trees.specs.Names.{Names}
 use Rattle.ir_trees.specs.Trees.{Head, Regions, Tree}
 use Rattle.kit.specs.Forms.{OpForm, Edge, ConditionEdges, form_of, number_of}
@@ -131,12 +131,12 @@ module _ {N : Names} (types : List KitType) (d n : ℕ) (h : Head N kit_contents
   pub plain_facts : h.content.kind ≡ ops.Br → PlainFacts
   plain_facts kind =
       let count = length h.operands in
-      let edge : Trees (Said KitAttr) = one (leaf (said_successor count)) in
+      let edge : Trees (Said KitAttr) = one (alone (said_successor count)) in
       let says_it = says_form Edge 7 (ap form_of kind) (ap number_of kind) in
       let said = only_if (length entries == 0) (Some edge) w.said says_it.0 in
       let shown : ShowsAll says types edge w.pieces =
       subst (λ (us : Trees (Said KitAttr)). ShowsAll says types us w.pieces) (sym (some_same edge w.said said.1)) w.shown in
-      let piece = one_seen says types (leaf (said_successor count)) w.pieces shown in
+      let piece = one_seen says types (alone (said_successor count)) w.pieces shown in
       let is : w.pieces ≡ a_tree (node (successor count) piece.2.0) no_tree =
       piece.1 ∙ ap (λ (t : ValueTree). a_tree t no_tree) piece.2.1 in
       record {
@@ -169,7 +169,7 @@ module _ {N : Names} (types : List KitType) (d n : ℕ) (h : Head N kit_contents
       let total : 1 + (a + b) ≡ count = sizes.adds_up in
       let shown : ShowsAll says types (condition_said a b) w.pieces =
       subst (λ (us : Trees (Said KitAttr)). ShowsAll says types us w.pieces) (sym sizes.says_it) w.shown in
-      let pieces = three_seen says types (leaf (said_operands 1)) (leaf (said_successor a)) (leaf (said_successor b))
+      let pieces = three_seen says types (alone (said_operands 1)) (alone (said_successor a)) (alone (said_successor b))
       w.pieces shown in
       let is : w.pieces ≡ a_tree (node (operands 1) pieces.4.0)
       (a_tree (node (successor a) pieces.5.0) (a_tree (node (successor b) pieces.6.0) no_tree)) =
@@ -196,7 +196,7 @@ module _ {N : Names} (types : List KitType) (d : ℕ) (g : Head N kit_contents) 
       types_in g.results ≡ [] → length g.successors ≡ 1 → IsWritableHead types d 0 g
   plain_writable kind bare none edge =
       let count = length g.operands in
-      let said : Trees (Said KitAttr) = one (leaf (said_successor count)) in
+      let said : Trees (Said KitAttr) = one (alone (said_successor count)) in
       record {
         kind = 7;
         said = said;

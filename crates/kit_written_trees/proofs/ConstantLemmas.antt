@@ -3,8 +3,8 @@ use Rattle.std.proofs.Common.{◌≡◌, ℕ, suc, ◌^◌, ◌<◌, ◌≤◌, 
 use Rattle.std.specs.Prelude.{nat_lt, ◌&&◌}
 use Rattle.std.proofs.lemmas.Bool.{le-leb, lt-ltb}
 use Rattle.ir_names.specs.Tree.{node, no_tree, a_tree, Trees}
-use Rattle.ir_print.specs.Pieces.{type_of_kind, attribute_of_kind, number, width}
-use Rattle.ir_print.specs.Shown.{Said, leaf, said_attribute, said_width}
+use Rattle.ir_print.specs.Pieces.{value_of_kind, leaf, number, width}
+use Rattle.ir_print.specs.Shown.{Said, alone, said_attribute, said_leaf}
 use Rattle.ir_trees.specs.Names.{Names}
 use Rattle.kit.specs.Meaning.{kit, operation_of}
 use Rattle.kit_checks.specs.Words as words
@@ -21,6 +21,7 @@ use Rattle.kit.specs.Readable.{constant_said_so}
 use Rattle.kit.specs.Says.{one, only, integer_said, has_values, said_of_attribute, said_of_type}
 use Rattle.kit_writable_trees.specs.Writable.{IsWritableHead}
 use Rattle.opt_trees.specs.Sccp.{constant_head}
+use Rattle.ir_print.specs.declared.format.ValueSort.TheVariants as sorts
 use Rattle.opt_trees.proofs.Lists.{some_same, none_some}
 
 -- the attribute is an integer of its type, of 1 to 64 bits
@@ -54,10 +55,10 @@ module _ (types : List KitType) (a : IntegerAttr) (is : IsNumber types a) where
   is_small = let most : a.integer.width ≤ 64 = is.most in omega (arith, most)
 
   type_says : said_of_type (keys.Integer a.integer)
-      ≡ Some (0, one (leaf (said_width a.integer.signedness a.integer.width)))
+      ≡ Some (0, one (alone (said_leaf (width a.integer.signedness a.integer.width))))
   type_says = ap
       (λ (b : Bool). only {X = ℕ × Trees (Said KitAttr)} b
-      (Some (0, one (leaf (said_width a.integer.signedness a.integer.width)))))
+      (Some (0, one (alone (said_leaf (width a.integer.signedness a.integer.width))))))
       (lt-ltb a.integer.width (2 ^ 32) is_small)
 
   pub constant_writable : {N : Names} (d : ℕ) (v : N.value) →
@@ -69,13 +70,13 @@ module _ (types : List KitType) (a : IntegerAttr) (is : IsNumber types a) where
       let w = a.integer.width in
       record {
         kind = 2;
-        said = one (leaf (said_attribute (attrs.Integer a)));
-        pieces = a_tree (node (attribute_of_kind 0) (a_tree (node (number n.is_negative n.magnitude) no_tree)
-            (a_tree (node (width s w) no_tree) no_tree))) no_tree;
-        shapes = node (type_of_kind 0) (a_tree (node (width s w) no_tree) no_tree) ∷ [];
+        said = one (alone (said_attribute (attrs.Integer a)));
+        pieces = a_tree (node (value_of_kind sorts.Attribute 0) (a_tree (node (leaf (number n.is_negative n.magnitude)) no_tree)
+            (a_tree (node (leaf (width s w)) no_tree) no_tree))) no_tree;
+        shapes = node (value_of_kind sorts.«Type» 0) (a_tree (node (leaf (width s w)) no_tree) no_tree) ∷ [];
         says_it = ap (option_map {U = ℕ × Trees (Said KitAttr)} (λ us. (2, us))) (constant_said_so a);
         shown = ((attrs.Integer a, integer_said s w n, refl, number_says, (refl, (refl, tt))), tt);
-        typed = ((a.ty, keys.Integer a.integer, one (leaf (said_width s w)), refl, is.key, type_says, (refl, tt)), tt);
+        typed = ((a.ty, keys.Integer a.integer, one (alone (said_leaf (width s w))), refl, is.key, type_says, (refl, tt)), tt);
         read = refl;
         holds = refl;
         flat = ((tt, (tt, tt)), tt);

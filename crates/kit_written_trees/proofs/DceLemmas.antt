@@ -1,9 +1,8 @@
 -- What is left without what is dead can be written.
-use Rattle.std.proofs.Common.{◌≡◌, ℕ, zero, suc, Bool, true, false, List, ◌++◌, refl, sym, ap, subst}
+use Rattle.std.proofs.Common.{◌≡◌, ℕ, zero, suc, Bool, true, false, List, refl, sym, ap, subst}
 use Rattle.std.specs.Prelude.{if◌then◌else◌, slice_get}
-use Rattle.ir_forest.specs.Closed.{AllDistinct}
 use Rattle.ir_trees.specs.Names.{Names}
-use Rattle.ir_trees.specs.Trees.{Head, Label, Sort, Blocks, Regions, Tree, end, operation, block, region}
+use Rattle.ir_trees.specs.Trees.{Head, Label, Sort, Regions, Tree, end, operation, block, region}
 use Rattle.kit.specs.Meaning.{changed_at, without_names, kit}
 use Rattle.kit_ops.specs.Keys.{given_names}
 use Rattle.kit_ops.specs.declared.types.KitType.{KitType}
@@ -13,19 +12,15 @@ use Rattle.kit_written_trees.proofs.EdgeLemmas.{LosesAtBranches, AllLoseAtBranch
 use Rattle.kit_written_trees.proofs.EdgeLemmas.{all_lose_at_branches}
 use Rattle.kit_written_trees.proofs.BranchLemmas.{head_dropped}
 use Rattle.kit_written_trees.proofs.ListLemmas.{types_left, written_left}
-use Rattle.kit_writable_trees.specs.Writable.{types_in, count_of, label_text, labels_in, AreWritten, IsWritableHead, IsWritableLabel, IsWritable, IsWritableRoot}
+use Rattle.kit_writable_trees.specs.Writable.{types_in, count_of, AreWritten, IsWritableHead, IsWritableLabel, IsWritable, IsWritableRoot}
 use Rattle.opt_trees.specs.Dce.{Whole, Gone, gone_at, thin_head, thin_label, thin}
 use Rattle.opt_trees.specs.Occurrences.{at_root}
 
 module _ {N : Names} (types : List KitType) (g : Gone N) where
-  -- regions and blocks stay
+  -- regions stay
   count_left : (rs : Tree N kit_contents Regions) → count_of (thin kit g rs) ≡ count_of rs
   count_left end = refl
   count_left (region bs rest) = ap suc (count_left rest)
-
-  labels_left : (bs : Tree N kit_contents Blocks) → labels_in (thin kit g bs) ≡ labels_in bs
-  labels_left end = refl
-  labels_left (block l os rest) = ap (λ ls. label_text l.content.label ++ ls) (labels_left rest)
 
   -- what loses operands at branches alone can be written
   head_left : (d n m : ℕ) (h : Head N kit_contents) → LosesAtBranches g h → m ≡ n → IsWritableHead types d n h →
@@ -38,7 +33,6 @@ module _ {N : Names} (types : List KitType) (g : Gone N) where
   label_left d l w =
       let p : ℕ → Bool = λ i. gone_at g (slice_get l.arguments i) in
       record {
-        labelled = w.labelled;
         -- what has no attributes has no names to lose
         no_attributes = ap (λ es. changed_at es given_names (without_names p)) w.no_attributes;
         arguments = subst (AreWritten types d) (sym (types_left p l.arguments))
@@ -60,11 +54,8 @@ module _ {N : Names} (types : List KitType) (g : Gone N) where
   left_writable d (block l os rest) lose w =
       (label_left d l w.0, left_writable d os lose.0 w.1, left_writable d rest lose.1 w.2)
   left_writable zero (region bs rest) lose w = absurd w.0
-  left_writable (suc d) (region bs rest) lose w = (
-    left_writable d bs lose.0 w.0,
-    subst AllDistinct (sym (labels_left bs)) w.1,
-    left_writable (suc d) rest lose.1 w.2,
-  )
+  left_writable (suc d) (region bs rest) lose w =
+      (left_writable d bs lose.0 w.0, left_writable (suc d) rest lose.1 w.1)
 
 pub dce_law : DceStaysWritable
 dce_law = λ types w t after writable apart dce.

@@ -3,13 +3,14 @@ use Rattle.std.proofs.Common.{◌≡◌, ℕ, zero, suc, List, [], ◌∷◌, re
 use Rattle.ir_base.specs.declared.types.TypeHandle.{TypeHandle}
 use Rattle.ir_names.specs.Tree.{node, no_tree, a_tree}
 use Rattle.ir_print.specs.Layout.{Deeper, IsFlat, AreFlat}
-use Rattle.ir_print.specs.Pieces.{type_of_kind, attribute_of_kind, list, item, operands, successor, region, name, number, width, ValueTree, Pieces}
+use Rattle.ir_print.specs.Pieces.{value_of_kind, list, item, operands, successor, region, leaf, width, ValueTree, Pieces}
 use Rattle.ir_print.specs.Shown.{Pairs, ShowsType}
 use Rattle.kit_ops.specs.declared.types.KitType.{KitType}
 use Rattle.kit_ops.specs.declared.kinds.KitOp.{KitOp}
 use Rattle.kit_ops.specs.declared.kinds.KitOp.TheVariants as ops
 use Rattle.kit.specs.Forms.{form_of}
 use Rattle.kit.specs.Says.{says, integer_types, constant_types, pair_types, types_returned, call_types}
+use Rattle.ir_print.specs.declared.format.ValueSort.TheVariants as sorts
 use Rattle.kit.specs.Says.{result_types_by}
 
 -- it is one more than this
@@ -28,11 +29,11 @@ AllFlat d (t ∷ ts) = IsFlat d t × AllFlat d ts
 
 integer_flat : (d : ℕ) (ts : Pieces) → Deeper d (λ e. AreFlat e ts) → AllFlat d (integer_types ts)
 integer_flat zero ts h = absurd h
-integer_flat (suc d) (a_tree t (a_tree (node (width s w) us) no_tree)) h = ((tt, tt), tt)
+integer_flat (suc d) (a_tree t (a_tree (node (leaf (width s w)) us) no_tree)) h = ((tt, tt), tt)
 integer_flat (suc d) _ h = tt
 
 constant_flat : (d : ℕ) (ps : Pieces) → AreFlat d ps → AllFlat d (constant_types ps)
-constant_flat d (a_tree (node (attribute_of_kind zero) ts) no_tree) h = integer_flat d ts h.0
+constant_flat d (a_tree (node (value_of_kind sorts.Attribute zero) ts) no_tree) h = integer_flat d ts h.0
 constant_flat d _ h = tt
 
 pair_flat : (d : ℕ) (ps : Pieces) → AreFlat d ps → AllFlat d (pair_types ps)
@@ -43,16 +44,14 @@ pair_flat d _ h = tt
 
 module _ (types : List KitType) where
   pub type_above : (d : ℕ) (ty : TypeHandle) (t : ValueTree) → ShowsType says types ty t → IsFlat d t → IsAbove d
-  type_above d ty (node (type_of_kind n) ts) h f = above d (λ e. AreFlat e ts) f
-  type_above d ty (node (attribute_of_kind n) ts) h f = absurd (cc h.2)
+  type_above d ty (node (value_of_kind sorts.«Type» n) ts) h f = above d (λ e. AreFlat e ts) f
+  type_above d ty (node (value_of_kind sorts.Attribute n) ts) h f = absurd (cc h.2)
   type_above d ty (node list ts) h f = absurd (cc h.1)
   type_above d ty (node item ts) h f = absurd (cc h.1)
   type_above d ty (node (operands n) ts) h f = absurd (cc h)
   type_above d ty (node (successor n) ts) h f = absurd (cc h)
   type_above d ty (node region ts) h f = absurd (cc h)
-  type_above d ty (node (name cs) ts) h f = absurd (cc h)
-  type_above d ty (node (number negative magnitude) ts) h f = absurd (cc h)
-  type_above d ty (node (width sign bits) ts) h f = absurd (cc h)
+  type_above d ty (node (leaf x) ts) h f = absurd (cc h)
 
   -- so it is where there is a type that is shown, and those that are shown are flat
   pub first_above : (d : ℕ) (ty : TypeHandle) (tys : List TypeHandle) (shapes : List ValueTree) →
@@ -73,7 +72,7 @@ module _ (types : List KitType) where
 
       -- the type of the function that is called
       returned : (t : ValueTree) → IsFlat d t → shapes ≡ types_returned t → IsAbove d
-      returned (node (type_of_kind n) ts) g is = above d (λ e. AreFlat e ts) g
+      returned (node (value_of_kind sorts.«Type» n) ts) g is = above d (λ e. AreFlat e ts) g
       returned _ g is = absurd (subst (Pairs (ShowsType says types) (ty ∷ tys)) is h)
 
       called : (us : Pieces) → AreFlat d us → shapes ≡ call_types us → IsAbove d

@@ -97,7 +97,7 @@ module _ {N : Type 0} (types : List KitType) (ν : Value → N) (β : Ptr BasicB
       ((λ i. blocks_same d os w.1 i ++ blocks_same d rest w.2 i) ∙ sym (map_joined β (blocks_in os) (blocks_in rest)))
   blocks_same zero (tree.region bs rest) w = absurd w.0
   blocks_same (suc e) (tree.region bs rest) w =
-      (λ i. blocks_same e bs w.0 i ++ blocks_same (suc e) rest w.2 i) ∙ sym (map_joined β (blocks_in bs) (blocks_in rest))
+      (λ i. blocks_same e bs w.0 i ++ blocks_same (suc e) rest w.1 i) ∙ sym (map_joined β (blocks_in bs) (blocks_in rest))
 
   none_in : (ns : List N) → AreIn [] ns
   none_in ns = in_by_has [] ns (λ n has. absurd has)
@@ -124,5 +124,5 @@ module _ {N : Type 0} (types : List KitType) (ν : Value → N) (β : Ptr BasicB
       have_edges e bs w.0 (λ b. Has b (own_blocks bs)) (blocks_among (written types ν β e bs w.0)) scoped.0
           (λ b own. subst (λ ms. Has (β b) ms) (sym (own_same e bs w.0)) (has_image β b (own_blocks bs) own)),
     ),
-    have_edges (suc e) rest w.2 P ns scoped.1 named,
+    have_edges (suc e) rest w.1 P ns scoped.1 named,
   )

@@ -1,16 +1,12 @@
--- What joining chains of blocks leaves of a tree that can be written, at any root: a chain keeps the label of its first
--- block, its last branches go, and each of its blocks is as deep as the first. That operations may be branches is no
--- hindrance.
-use Rattle.std.proofs.Common.{◌≡◌, ⊎_elim, inl, ℕ, zero, suc, ◌+◌, List, [], ◌++◌, length, Option, Some, None, refl}
+-- What joining chains of blocks leaves of a tree that can be written, at any root: the last branches of a chain go, and each
+-- of its blocks is as deep as the first. That operations may be branches is no hindrance.
+use Rattle.std.proofs.Common.{◌≡◌, ⊎_elim, inl, ℕ, zero, suc, ◌+◌, List, length, Option, Some, None, refl}
 use Rattle.std.proofs.Common.{sym, ap, ◌∙◌, subst, arith}
-use Rattle.ir_forest.specs.Closed.{AllDistinct}
 use Rattle.ir_trees.specs.Names.{Names}
 use Rattle.ir_trees.specs.Trees.{Sort, Operations, Blocks, Regions, Tree, end, operation, block, region, Root}
 use Rattle.kit_ops.specs.declared.types.KitType.{KitType}
 use Rattle.kit_views.specs.Reading.{kit_contents}
-use Rattle.kit_written_trees.proofs.ListLemmas.{distinct_right, distinct_fewer}
-use Rattle.kit_writable_trees.specs.Writable.{count_of, label_text, labels_in, IsWritableHead}
-use Rattle.kit_writable_trees.specs.Writable.{IsWritable}
+use Rattle.kit_writable_trees.specs.Writable.{count_of, IsWritableHead, IsWritable}
 use Rattle.opt_trees.specs.Dialect.{Dialect}
 use Rattle.opt_trees.specs.Occurrences.{Has, BlockOccurrence, Inside, inner, next_block, next_region}
 use Rattle.opt_trees.specs.Occurrences.{block_occurrences_in, occurrences_of, block_occurrences_of, at_root}
@@ -18,44 +14,26 @@ use Rattle.opt_trees.specs.Simplify.{StartingRegions, but_last, append, Joinable
 use Rattle.opt_trees.specs.Simplify.{taken, first, chain_ends, chain_goes_on, IsLocal}
 use Rattle.opt_trees.proofs.Homes.{Part, part_regions, part_rest, part_block, part_blocks, part_region, part_more}
 use Rattle.opt_trees.proofs.Homes.{part_part, block_inside, but_last_inside}
-use Rattle.opt_trees.proofs.Lists.{none_some}
-use Rattle.opt_trees.proofs.NoneDead.{has-append, has-left, has-right}
+use Rattle.opt_trees.proofs.NoneDead.{has-append}
 use Rattle.opt_trees.proofs.Reached.{holder}
 
--- ---- regions and labels
+-- ---- regions
 
 module _ {N : Names} where
-  -- how many regions are in the list itself, and the labels of the blocks in it
+  -- how many regions are in the list itself
   abbrev own_count : {s : Sort} → Tree N kit_contents s → ℕ
   own_count end = 0
   own_count (operation h rs rest) = 0
   own_count (block l os rest) = own_count rest
   own_count (region bs rest) = suc (own_count rest)
 
-  abbrev own_labels : {s : Sort} → Tree N kit_contents s → List (List ℕ)
-  own_labels end = []
-  own_labels (operation h rs rest) = []
-  own_labels (block l os rest) = label_text l.content.label ++ own_labels rest
-  own_labels (region bs rest) = []
-
   own_count_is : (rs : Tree N kit_contents Regions) → own_count rs ≡ count_of rs
   own_count_is end = refl
   own_count_is (region bs rest) = ap suc (own_count_is rest)
 
-  own_labels_are : (bs : Tree N kit_contents Blocks) → own_labels bs ≡ labels_in bs
-  own_labels_are end = refl
-  own_labels_are (block l os rest) = ap (λ ls. label_text l.content.label ++ ls) (own_labels_are rest)
-
   none_counted : (os : Tree N kit_contents Operations) → own_count os ≡ 0
   none_counted end = refl
   none_counted (operation h rs rest) = refl
-
-  none_labelled : (os : Tree N kit_contents Operations) → own_labels os ≡ []
-  none_labelled end = refl
-  none_labelled (operation h rs rest) = refl
-
-none_twice : {X : Type 0} → AllDistinct {N = X} []
-none_twice i j x e f = absurd (none_some x e)
 
 module _ {N : Names} {A : Type 0} (d : Dialect kit_contents A) (p : StartingRegions N) (r : Root N kit_contents) where
   -- no region goes
@@ -71,47 +49,6 @@ module _ {N : Names} {A : Type 0} (d : Dialect kit_contents A) (p : StartingRegi
 
   pub count_joined : (rs qs : Tree N kit_contents Regions) → Joins d p r None Regions rs qs → count_of qs ≡ count_of rs
   count_joined rs qs j = sym (own_count_is qs) ∙ (count_same None Regions rs qs j ∙ own_count_is rs)
-
-  -- a label that is left was there
-  label_was : (text : List ℕ) (q : Option N.block) (s : Sort) (x y : Tree N kit_contents s) → Joins d p r q s x y →
-      Has text (own_labels y) → Has text (own_labels x)
-  label_was text _ _ _ _ (ends s) has = has
-  label_was text _ _ _ _ (operations h rs qs rest more x y) has = has
-  label_was text _ _ _ _ (regions bs cs rest more x y) has = has
-  label_was text _ _ _ _ (taken l ops rest more b j x) has =
-      has-right text (label_text l.content.label) (own_labels rest) (label_was text None Blocks rest more x has)
-  label_was text _ _ _ _ (first l ops all rest more n x y) has = ⊎_elim
-      (λ i. has-left text (label_text l.content.label) (own_labels rest) i)
-      (λ i. has-right text (label_text l.content.label) (own_labels rest) (label_was text None Blocks rest more y i))
-      (has-append text (label_text l.content.label) (own_labels more) has)
-  label_was text _ _ _ _ (chain_ends b ops own n x) has = absurd (subst (Has text) (none_labelled own) has)
-  label_was text _ _ _ _ (chain_goes_on b z ops own others all j h x y e) has =
-      absurd (subst (Has text) (none_labelled all) has)
-
-  pub label_joined : (text : List ℕ) (bs cs : Tree N kit_contents Blocks) → Joins d p r None Blocks bs cs →
-      Has text (labels_in cs) → Has text (labels_in bs)
-  label_joined text bs cs j has = subst (Has text) (own_labels_are bs)
-      (label_was text None Blocks bs cs j (subst (Has text) (sym (own_labels_are cs)) has))
-
-  -- so labels stay distinct
-  labels_apart : (q : Option N.block) (s : Sort) (x y : Tree N kit_contents s) → Joins d p r q s x y →
-      AllDistinct (own_labels x) → AllDistinct (own_labels y)
-  labels_apart _ _ _ _ (ends s) apart = apart
-  labels_apart _ _ _ _ (operations h rs qs rest more x y) apart = apart
-  labels_apart _ _ _ _ (regions bs cs rest more x y) apart = apart
-  labels_apart _ _ _ _ (taken l ops rest more b j x) apart =
-      labels_apart None Blocks rest more x (distinct_right (label_text l.content.label) (own_labels rest) apart)
-  labels_apart _ _ _ _ (first l ops all rest more n x y) apart = distinct_fewer (label_text l.content.label)
-      (own_labels rest) (own_labels more) (λ text i. label_was text None Blocks rest more y i)
-      (labels_apart None Blocks rest more y (distinct_right (label_text l.content.label) (own_labels rest) apart)) apart
-  labels_apart _ _ _ _ (chain_ends b ops own n x) apart = subst AllDistinct (sym (none_labelled own)) none_twice
-  labels_apart _ _ _ _ (chain_goes_on b z ops own others all j h x y e) apart =
-      subst AllDistinct (sym (none_labelled all)) none_twice
-
-  pub labels_joined : (bs cs : Tree N kit_contents Blocks) → Joins d p r None Blocks bs cs →
-      AllDistinct (labels_in bs) → AllDistinct (labels_in cs)
-  labels_joined bs cs j apart = subst AllDistinct (own_labels_are cs)
-      (labels_apart None Blocks bs cs j (subst AllDistinct (sym (own_labels_are bs)) apart))
 
 -- ---- operations
 
@@ -160,7 +97,7 @@ module _ {N : Names} {A : Type 0} (types : List KitType) (d : Dialect kit_conten
   written_block zero (region bs rest) c at w y has = absurd w.0
   written_block (suc e) (region bs rest) c at w y has = ⊎_elim
       (λ i. written_block e bs c at w.0 y i)
-      (λ i. written_block (suc e) rest (next_region c) at w.2 y i)
+      (λ i. written_block (suc e) rest (next_region c) at w.1 y i)
       (has-append y (block_occurrences_in bs c) (block_occurrences_in rest (next_region c)) has)
 
   block_at : (z : BlockOccurrence N kit_contents) (e : ℕ) → Has z (block_occurrences_of r) →
@@ -212,9 +149,8 @@ module _ {N : Names} {A : Type 0} (types : List KitType) (d : Dialect kit_conten
   written_joined _ _ _ _ (regions bs cs rest more x y) (suc e) c at k i w = (
     written_joined None Blocks bs cs x e c at tt
         (part_region (occurrences_of r) (block_occurrences_of r) bs rest c i) w.0,
-    labels_joined d p r bs cs x w.1,
     written_joined None Regions rest more y (suc e) (next_region c) at tt
-        (part_more (occurrences_of r) (block_occurrences_of r) bs rest c i) w.2,
+        (part_more (occurrences_of r) (block_occurrences_of r) bs rest c i) w.1,
   )
   written_joined _ _ _ _ (taken l ops rest more b j x) e c at k i w =
       written_joined None Blocks rest more x e (next_block c) at tt

@@ -1,14 +1,13 @@
 -- What can be written can be written under other names.
-use Rattle.std.proofs.Common.{◌≡◌, ℕ, zero, suc, List, [], ◌∷◌, ◌++◌, map, refl, sym, ap, subst}
+use Rattle.std.proofs.Common.{◌≡◌, ℕ, zero, suc, List, [], ◌∷◌, map, refl, sym, ap, subst}
 use Rattle.ir_base.specs.declared.types.TypeHandle.{TypeHandle}
-use Rattle.ir_forest.specs.Closed.{AllDistinct}
 use Rattle.ir_trees.specs.Names.{Names}
 use Rattle.ir_trees.specs.Renames.{Maps, rename_defined, rename_head, rename_label, rename, rename_root}
-use Rattle.ir_trees.specs.Trees.{Defined, Head, Label, Sort, Blocks, Regions, Tree, end, operation, block, region, Root}
+use Rattle.ir_trees.specs.Trees.{Defined, Head, Label, Sort, Regions, Tree, end, operation, block, region, Root}
 use Rattle.kit_ops.specs.declared.types.KitType.{KitType}
 use Rattle.kit_views.specs.Reading.{kit_contents}
 use Rattle.kit_written_trees.proofs.HeadLemmas.{head_like}
-use Rattle.kit_writable_trees.specs.Writable.{types_in, count_of, label_text, labels_in, AreWritten, IsWritableHead, IsWritableLabel, IsWritable, IsWritableRoot}
+use Rattle.kit_writable_trees.specs.Writable.{types_in, count_of, AreWritten, IsWritableHead, IsWritableLabel, IsWritable, IsWritableRoot}
 use Rattle.opt_trees.proofs.Lists.{length-map}
 
 -- the types of definitions are the same
@@ -21,10 +20,6 @@ module _ {N M : Names} (types : List KitType) (m : Maps N M) where
   count_renamed : (rs : Tree N kit_contents Regions) → count_of (rename m rs) ≡ count_of rs
   count_renamed end = refl
   count_renamed (region bs rest) = ap suc (count_renamed rest)
-
-  labels_renamed : (bs : Tree N kit_contents Blocks) → labels_in (rename m bs) ≡ labels_in bs
-  labels_renamed end = refl
-  labels_renamed (block l os rest) = ap (λ ls. label_text l.content.label ++ ls) (labels_renamed rest)
 
   head_renamed : (d n k : ℕ) (h : Head N kit_contents) → k ≡ n → IsWritableHead types d n h →
       IsWritableHead types d k (rename_head m h)
@@ -41,7 +36,6 @@ module _ {N M : Names} (types : List KitType) (m : Maps N M) where
   label_renamed : (d : ℕ) (l : Label N kit_contents) → IsWritableLabel types d l →
       IsWritableLabel types d (rename_label m l)
   label_renamed d l w = record {
-    labelled = w.labelled;
     no_attributes = w.no_attributes;
     arguments = subst (AreWritten types d) (sym (types_renamed m.value l.arguments)) w.arguments;
   }
@@ -57,7 +51,7 @@ module _ {N M : Names} (types : List KitType) (m : Maps N M) where
       (label_renamed d l w.0, renamed_writable d os w.1, renamed_writable d rest w.2)
   renamed_writable zero (region bs rest) w = absurd w.0
   renamed_writable (suc d) (region bs rest) w =
-      (renamed_writable d bs w.0, subst AllDistinct (sym (labels_renamed bs)) w.1, renamed_writable (suc d) rest w.2)
+      (renamed_writable d bs w.0, renamed_writable (suc d) rest w.1)
 
   pub root_renamed : (t : Root N kit_contents) → IsWritableRoot types t → IsWritableRoot types (rename_root m t)
   root_renamed t w = record {

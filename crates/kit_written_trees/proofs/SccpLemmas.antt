@@ -1,16 +1,17 @@
 -- With constants in place of known values a tree that keeps the rules can be written.
 use Rattle.std.proofs.Common.{◌≡◌, ⊎_elim, ℕ, zero, suc, ◌≤◌, List, [], ◌∷◌, ◌++◌, length, Option, Some, None, slice_get, option_and_then, inl, inr, refl, sym, ap, ◌∙◌, subst}
 use Rattle.ir_base.specs.declared.types.TypeHandle.{TypeHandle}
-use Rattle.ir_forest.specs.Closed.{AllDistinct}
 use Rattle.ir_print.specs.Pieces.{ValueTree}
 use Rattle.ir_print.specs.Shown.{Pairs, ShowsType}
 use Rattle.ir_program.specs.declared.handles.Value.{Value}
 use Rattle.ir_trees.specs.Names.{Names}
 use Rattle.ir_trees.specs.Renames.{names_of, rename_root}
 use Rattle.ir_trees.specs.Stands.{ProgramHead}
-use Rattle.ir_trees.specs.Trees.{Defined, Head, Label, Sort, Operations, Blocks, Regions, Tree, end, operation, block, region, Root}
+use Rattle.ir_trees.specs.Trees.{Defined, Head, Label, Sort, Operations, Regions, Tree, end, operation, block, region, Root}
+use Rattle.kit.specs.Context.{KitTree}
 use Rattle.kit.specs.Meaning.{KitOperation, KitBlock, kit}
 use Rattle.kit_checks.proofs.Down.{step_to}
+use Rattle.kit_checks.specs.KitWorld.{kit_world}
 use Rattle.kit_checks.specs.Rules.{AttributesAreKnown, ValuesAreIntegers}
 use Rattle.kit_checks.specs.Words.{IsValueType, bodies_of, integer_type}
 use Rattle.kit_checks.specs.declared.rule.Rule.TheVariants as rule
@@ -19,7 +20,6 @@ use Rattle.kit_ops.specs.declared.kinds.KitOp.TheVariants as ops
 use Rattle.kit_ops.specs.declared.types.IntegerType.{IntegerType}
 use Rattle.kit_ops.specs.declared.types.KitType.{KitType}
 use Rattle.kit_pass_rules.specs.Laws.{IsGood}
-use Rattle.kit_pass_rules.specs.Worlds.{PassedTree, kit_world}
 use Rattle.kit_pass_rules.proofs.Lists.{map_get, index_of_has}
 use Rattle.kit_pass_rules.proofs.Located.{located, located_block}
 use Rattle.kit_pass_rules.proofs.SccpCame.{body_in}
@@ -34,7 +34,7 @@ use Rattle.kit_written_trees.proofs.ConstantLemmas.{IsNumber, key_of, constant_w
 use Rattle.kit_written_trees.proofs.DepthLemmas.{IsAbove, first_above, results_above}
 use Rattle.kit_written_trees.proofs.HeadLemmas.{head_like}
 use Rattle.kit_written_trees.proofs.RenameLemmas.{types_renamed, root_renamed}
-use Rattle.kit_writable_trees.specs.Writable.{types_in, count_of, label_text, labels_in, AreWritten, IsWritableHead, IsWritableLabel, IsWritable, IsWritableRoot}
+use Rattle.kit_writable_trees.specs.Writable.{types_in, count_of, AreWritten, IsWritableHead, IsWritableLabel, IsWritable, IsWritableRoot}
 use Rattle.opt_trees.specs.Occurrences.{Has, Inside, Occurrence, OperationSite, inner, next_block, next_region}
 use Rattle.opt_trees.specs.Occurrences.{at_root, occurrences_in, occurrences_of, block_occurrences_of}
 use Rattle.opt_trees.proofs.NoneDead.{has-left, has-right}
@@ -106,10 +106,6 @@ module _ {N : Names} (types : List KitType) (made : N.value → Option IntegerAt
   count_put end = refl
   count_put (region bs rest) = ap suc (count_put rest)
 
-  labels_put : (bs : Tree N kit_contents Blocks) → labels_in (put kit made bs) ≡ labels_in bs
-  labels_put end = refl
-  labels_put (block l os rest) = ap (λ ls. label_text l.content.label ++ ls) (labels_put rest)
-
   head_put : (d n m : ℕ) (h : Head N kit_contents) → m ≡ n → IsWritableHead types d n h →
       IsWritableHead types d m (old_head {N = N} made h)
   head_put d n m h count w = head_like types d n m h (old_head {N = N} made h)
@@ -125,7 +121,6 @@ module _ {N : Names} (types : List KitType) (made : N.value → Option IntegerAt
   label_put : (d : ℕ) (l : Label N kit_contents) → IsWritableLabel types d l →
       IsWritableLabel types d (old_label {N = N} l)
   label_put d l w = record {
-    labelled = w.labelled;
     no_attributes = w.no_attributes;
     arguments = subst (AreWritten types d) (sym (types_renamed Old l.arguments)) w.arguments;
   }
@@ -154,9 +149,8 @@ module _ {N : Names} (types : List KitType) (made : N.value → Option IntegerAt
   put_writable (suc d) (region bs rest) c free w = (
     put_writable d bs c
         (λ o has. free o (has-left o (occurrences_in bs c) (occurrences_in rest (next_region c)) has)) w.0,
-    subst AllDistinct (sym (labels_put bs)) w.1,
     put_writable (suc d) rest (next_region c)
-        (λ o has. free o (has-right o (occurrences_in bs c) (occurrences_in rest (next_region c)) has)) w.2,
+        (λ o has. free o (has-right o (occurrences_in bs c) (occurrences_in rest (next_region c)) has)) w.1,
   )
 
   pub root_put : (t : Root N kit_contents) → NoPlaceholder t.regions (at_root t) → IsWritableRoot types t →
@@ -168,7 +162,7 @@ module _ {N : Names} (types : List KitType) (made : N.value → Option IntegerAt
 
 -- ---- which constants
 
-module _ (leads : TypeHandle → Option KitType) (old : Value → Option TypeHandle) (t : PassedTree)
+module _ (leads : TypeHandle → Option KitType) (old : Value → Option TypeHandle) (t : KitTree)
     (good : IsGood leads old t) where
   -- the type of a value that is defined in the tree, of 1 to 64 bits
   record TypeOf (v : Value) : Type 0 where

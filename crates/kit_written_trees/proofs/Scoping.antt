@@ -2,7 +2,6 @@
 use Rattle.std.proofs.Common.{if◌then◌else◌, ◌≡◌, ◌∙◌, ◌⊎◌, inl, inr, ⊎_elim, ℕ, zero, suc, Bool, true, false, List, [], ◌∷◌, ◌++◌, map, refl, ap, sym, subst}
 use Rattle.ir_base.specs.declared.types.TypeHandle.{TypeHandle}
 use Rattle.ir_forest.specs.Closed.{AreIn, all_mentioned, all_defined, all_definitions_of, in_scope, is_isolated_head, IsScope, AreScoped}
-use Rattle.ir_names.specs.Identifier.{text_of}
 use Rattle.ir_forest.specs.Closed as text
 use Rattle.ir_print.specs.Pieces.{ValueTree, Pieces, operation, a_region, block, Entities}
 use Rattle.ir_print.specs.Shown.{Pairs}
@@ -19,7 +18,7 @@ use Rattle.kit_ruled_passes.specs.Scopes.{KitLabel, IsResultHere, IsOfBlock, IsO
 use Rattle.kit_writable_trees.specs.Writable.{types_in, count_of, IsWritable}
 use Rattle.kit_written_trees.proofs.Known.{has_left, has_right, has_parts}
 use Rattle.kit_written_trees.proofs.Numbered.{get_has, has_get}
-use Rattle.kit_written_trees.proofs.Written.{Part, named_so, head_text, written}
+use Rattle.kit_written_trees.proofs.Written.{Part, own_label, named_so, head_text, written}
 
 -- each of the first is among the second
 pub in_by_has : {N : Type 0} (xs ys : List N) → ((n : N) → Has n xs → Has n ys) → AreIn xs ys
@@ -71,7 +70,7 @@ module _ {N : Type 0} (isolated : ℕ → Bool) (types : List KitType) (ν : Val
       ∙ sym (map_joined ν (names_of l.arguments) (defined_in os ++ defined_in rest))
   definitions_same zero (tree.region bs rest) w = absurd w.0
   definitions_same (suc e) (tree.region bs rest) w =
-      (λ i. definitions_same e bs w.0 i ++ definitions_same (suc e) rest w.2 i)
+      (λ i. definitions_same e bs w.0 i ++ definitions_same (suc e) rest w.1 i)
       ∙ sym (map_joined ν (defined_in bs) (defined_in rest))
 
   -- ---- what is defined in the scope of a part
@@ -153,13 +152,13 @@ module _ {N : Type 0} (isolated : ℕ → Bool) (types : List KitType) (ν : Val
     regions_mention zero (tree.region bs rest) w P scoped n has = absurd w.0
     regions_mention (suc e) (tree.region bs rest) w P scoped n has =
         let here = all_defined isolated (texts e bs w.0) in
-        let later = all_defined isolated (texts (suc e) rest w.2) in
+        let later = all_defined isolated (texts (suc e) rest w.1) in
         ⊎_elim
         (λ h. has_left n here later (⊎_elim
         (λ v. subst (λ m. Has m here) (sym v.2) (of_entry e bs w.0 v.0 v.1)) (λ i. i)
         (blocks_mention e bs w.0 (IsOfEntry bs) scoped.0 n h)))
-        (λ h. has_right n here later (regions_mention (suc e) rest w.2 P scoped.1 n h))
-        (has_parts n (all_mentioned isolated (texts e bs w.0)) (all_mentioned isolated (texts (suc e) rest w.2)) has)
+        (λ h. has_right n here later (regions_mention (suc e) rest w.1 P scoped.1 n h))
+        (has_parts n (all_mentioned isolated (texts e bs w.0)) (all_mentioned isolated (texts (suc e) rest w.1)) has)
 
     blocks_mention : (d : ℕ) (bs : Part Blocks) (w : IsWritable {N = by_handle} types d bs) (P : Value → Type 0)
         → Scoped bs P → (n : N) → Has n (all_mentioned isolated (texts d bs w))
@@ -230,7 +229,7 @@ module _ {N : Type 0} (isolated : ℕ → Bool) (types : List KitType) (ν : Val
     regions_scoped_by b zero (tree.region bs rest) w P scoped = absurd w.0
     regions_scoped_by b (suc e) (tree.region bs rest) w P scoped = (
       (region_scope b e bs w.0 scoped.0, blocks_scoped false e bs w.0 (IsOfEntry bs) scoped.0),
-      regions_scoped_by b (suc e) rest w.2 P scoped.1,
+      regions_scoped_by b (suc e) rest w.1 P scoped.1,
     )
 
     blocks_scoped : (b : Bool) (d : ℕ) (bs : Part Blocks) (w : IsWritable {N = by_handle} types d bs) (P : Value → Type 0)
@@ -238,7 +237,7 @@ module _ {N : Type 0} (isolated : ℕ → Bool) (types : List KitType) (ν : Val
     blocks_scoped b d end w P scoped = tt
     blocks_scoped b d (tree.block l os rest) w P scoped = (
       (
-        no_block_scope b (β l.name) (text_of w.0.labelled.0) (named_so types ν β l.arguments w.0.arguments.shapes)
+        no_block_scope b (β l.name) (own_label l.content.label) (named_so types ν β l.arguments w.0.arguments.shapes)
             (texts d os w.1),
         operations_scoped false d os w.1 (λ x. IsOfBlock l os x ⊎ P x) scoped.0,
       ),

@@ -1,43 +1,35 @@
 -- What simplifying control flow leaves can be written: branches are decided, blocks are cut, and chains of blocks are
 -- joined.
-use Rattle.std.proofs.Common.{◌≡◌, ⊎_elim, ℕ, zero, suc, Bool, true, false, List, ◌++◌, Option, refl, sym, ap, subst}
+use Rattle.std.proofs.Common.{◌≡◌, ℕ, zero, suc, Bool, true, false, List, Option, refl, sym, ap, subst}
 use Rattle.std.specs.Prelude.{if◌then◌else◌}
-use Rattle.ir_forest.specs.Closed.{AllDistinct}
 use Rattle.ir_trees.specs.Names.{Names}
 use Rattle.ir_trees.specs.Stands.{by_handle}
-use Rattle.ir_trees.specs.Trees.{Head, Sort, Blocks, Regions, Tree, end, operation, block, region, Root}
+use Rattle.ir_trees.specs.Trees.{Head, Sort, Regions, Tree, end, operation, block, region, Root}
+use Rattle.kit.specs.Context.{KitTree}
 use Rattle.kit.specs.Meaning.{kit}
 use Rattle.kit_ops.specs.declared.attributes.IntegerAttr.{IntegerAttr}
 use Rattle.kit_ops.specs.declared.types.KitType.{KitType}
 use Rattle.kit_pass_rules.specs.Names.{maps_of}
-use Rattle.kit_pass_rules.specs.Worlds.{PassedTree}
 use Rattle.kit_views.specs.Reading.{kit_contents}
 use Rattle.kit_written_trees.specs.PassLaws.{SimplifyStaysWritable}
 use Rattle.kit_written_trees.proofs.BranchLemmas.{head_decided}
 use Rattle.kit_written_trees.proofs.HeadLemmas.{head_like}
 use Rattle.kit_written_trees.proofs.JoinedLemmas.{count_joined, chains_writable}
-use Rattle.kit_written_trees.proofs.ListLemmas.{distinct_right, distinct_fewer}
 use Rattle.kit_written_trees.proofs.RenameLemmas.{root_renamed}
-use Rattle.kit_writable_trees.specs.Writable.{count_of, label_text, labels_in, IsWritableHead, IsWritable}
+use Rattle.kit_writable_trees.specs.Writable.{count_of, IsWritableHead, IsWritable}
 use Rattle.kit_writable_trees.specs.Writable.{IsWritableRoot}
-use Rattle.opt_trees.specs.Occurrences.{Has}
 use Rattle.opt_trees.specs.Simplify.{StartingRegions, all_of, decide, decide_head, decided, keep, use_head, use_instead, IsLocal}
 use Rattle.opt_trees.specs.Simplify.{IsJoined, IsSimplify}
 use Rattle.opt_trees.proofs.Lists.{length-map}
-use Rattle.opt_trees.proofs.NoneDead.{has-append, has-left, has-right}
 use Rattle.opt_trees.proofs.Orderly.{phases_local}
 
 -- ---- branches
 
 module _ {N : Names} (types : List KitType) (alone : N.value → Option IntegerAttr) where
-  -- regions and labels stay
+  -- regions stay
   count_decided : (rs : Tree N kit_contents Regions) → count_of (decide kit alone rs) ≡ count_of rs
   count_decided end = refl
   count_decided (region bs rest) = ap suc (count_decided rest)
-
-  labels_decided : (bs : Tree N kit_contents Blocks) → labels_in (decide kit alone bs) ≡ labels_in bs
-  labels_decided end = refl
-  labels_decided (block l os rest) = ap (λ ls. label_text l.content.label ++ ls) (labels_decided rest)
 
   part_decided : {s : Sort} (d : ℕ) (x : Tree N kit_contents s) → IsWritable types d x →
       IsWritable types d (decide kit alone x)
@@ -50,7 +42,7 @@ module _ {N : Names} (types : List KitType) (alone : N.value → Option IntegerA
   part_decided d (block l os rest) w = (w.0, part_decided d os w.1, part_decided d rest w.2)
   part_decided zero (region bs rest) w = absurd w.0
   part_decided (suc d) (region bs rest) w =
-      (part_decided d bs w.0, subst AllDistinct (sym (labels_decided bs)) w.1, part_decided (suc d) rest w.2)
+      (part_decided d bs w.0, part_decided (suc d) rest w.1)
 
   pub root_decided : (t : Root N kit_contents) → IsWritableRoot types t →
       IsWritableRoot types (record { head = t.head; regions = decide kit alone t.regions })
@@ -65,34 +57,6 @@ module _ {N : Names} (types : List KitType) (gone : N.block → Bool) where
   count_kept : (rs : Tree N kit_contents Regions) → count_of (keep gone rs) ≡ count_of rs
   count_kept end = refl
   count_kept (region bs rest) = ap suc (count_kept rest)
-
-  -- a label that is left was there
-  label_was : (text : List ℕ) (bs : Tree N kit_contents Blocks) → Has text (labels_in (keep gone bs)) →
-      Has text (labels_in bs)
-  label_was text end h = h
-  label_was text (block l os rest) h = step (gone l.name) (label_was text rest) h
-    where
-      step : (b : Bool) → (Has text (labels_in (keep gone rest)) → Has text (labels_in rest)) →
-          Has text (labels_in (if b then keep gone rest else block l (keep gone os) (keep gone rest))) →
-          Has text (label_text l.content.label ++ labels_in rest)
-      step true f h = has-right text (label_text l.content.label) (labels_in rest) (f h)
-      step false f h = ⊎_elim
-          (λ x. has-left text (label_text l.content.label) (labels_in rest) x)
-          (λ x. has-right text (label_text l.content.label) (labels_in rest) (f x))
-          (has-append text (label_text l.content.label) (labels_in (keep gone rest)) h)
-
-  -- so labels stay distinct
-  labels_distinct : (bs : Tree N kit_contents Blocks) → AllDistinct (labels_in bs) →
-      AllDistinct (labels_in (keep gone bs))
-  labels_distinct end h = h
-  labels_distinct (block l os rest) h =
-      step (gone l.name) (labels_distinct rest (distinct_right (label_text l.content.label) (labels_in rest) h))
-    where
-      step : (b : Bool) → AllDistinct (labels_in (keep gone rest)) →
-          AllDistinct (labels_in (if b then keep gone rest else block l (keep gone os) (keep gone rest)))
-      step true d = d
-      step false d = distinct_fewer (label_text l.content.label) (labels_in rest) (labels_in (keep gone rest))
-          (λ text x. label_was text rest x) d h
 
   pub cut_writable : {s : Sort} (d : ℕ) (x : Tree N kit_contents s) → IsWritable types d x →
       IsWritable types d (keep gone x)
@@ -109,7 +73,7 @@ module _ {N : Names} (types : List KitType) (gone : N.block → Bool) where
       step false a b = (w.0, a, b)
   cut_writable zero (region bs rest) w = absurd w.0
   cut_writable (suc d) (region bs rest) w =
-      (cut_writable d bs w.0, labels_distinct bs w.1, cut_writable (suc d) rest w.2)
+      (cut_writable d bs w.0, cut_writable (suc d) rest w.1)
 
   pub root_cut : (t : Root N kit_contents) → IsWritableRoot types t →
       IsWritableRoot types (record { head = t.head; regions = keep gone t.regions })
@@ -125,10 +89,6 @@ module _ {N : Names} (types : List KitType) (f : N.value → N.value) where
   count_used : (rs : Tree N kit_contents Regions) → count_of (use_instead f rs) ≡ count_of rs
   count_used end = refl
   count_used (region bs rest) = ap suc (count_used rest)
-
-  labels_used : (bs : Tree N kit_contents Blocks) → labels_in (use_instead f bs) ≡ labels_in bs
-  labels_used end = refl
-  labels_used (block l os rest) = ap (λ ls. label_text l.content.label ++ ls) (labels_used rest)
 
   head_used : (d n m : ℕ) (h : Head N kit_contents) → m ≡ n → IsWritableHead types d n h →
       IsWritableHead types d m (use_head f h)
@@ -152,7 +112,7 @@ module _ {N : Names} (types : List KitType) (f : N.value → N.value) where
   used_writable d (block l os rest) w = (w.0, used_writable d os w.1, used_writable d rest w.2)
   used_writable zero (region bs rest) w = absurd w.0
   used_writable (suc d) (region bs rest) w =
-      (used_writable d bs w.0, subst AllDistinct (sym (labels_used bs)) w.1, used_writable (suc d) rest w.2)
+      (used_writable d bs w.0, used_writable (suc d) rest w.1)
 
   pub root_used : (t : Root N kit_contents) → IsWritableRoot types t →
       IsWritableRoot types (record { head = use_head f t.head; regions = use_instead f t.regions })
@@ -164,10 +124,10 @@ module _ {N : Names} (types : List KitType) (f : N.value → N.value) where
 -- ---- the pass
 
 -- chains are joined
-joined_writable : (types : List KitType) (p : StartingRegions by_handle) (t after : PassedTree) → IsLocal t →
+joined_writable : (types : List KitType) (p : StartingRegions by_handle) (t after : KitTree) → IsLocal t →
     IsWritableRoot types t → IsJoined kit p t after → IsWritableRoot types after
 joined_writable types p t after local writable joined =
-    let made : PassedTree = record { head = t.head; regions = joined.regions } in
+    let made : KitTree = record { head = t.head; regions = joined.regions } in
     let written : IsWritableRoot types made = record {
       head = subst (λ n. IsWritableHead types 64 n t.head)
           (sym (count_joined kit p t t.regions joined.regions joined.joins)) writable.head;
@@ -177,7 +137,7 @@ joined_writable types p t after local writable joined =
 
 pub simplify_law : SimplifyStaysWritable
 simplify_law = λ types w t after writable local named.
-    let made : PassedTree = named.0 in
+    let made : KitTree = named.0 in
     let pass : IsSimplify kit w t made = named.1 in
     let at_cut : IsWritableRoot types pass.cut = subst (IsWritableRoot types) (sym pass.is_cut.is)
     (root_cut types pass.is_cut.gone (decided kit w t) (root_decided types w.alone t writable)) in

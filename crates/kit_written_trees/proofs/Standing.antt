@@ -1,7 +1,6 @@
 -- What is written of a tree is the tree of texts of the operation that it is the tree of.
-use Rattle.std.proofs.Common.{◌≡◌, ◌∙◌, inl, inr, ℕ, zero, suc, List, [], ◌∷◌, map, length, Option, Some, option_map, refl, ap, sym, subst}
+use Rattle.std.proofs.Common.{◌≡◌, ◌∙◌, inl, inr, ℕ, zero, suc, List, [], ◌∷◌, map, length, Option, Some, None, option_map, refl, ap, sym}
 use Rattle.ir_names.specs.declared.identifier.Identifier.{Identifier}
-use Rattle.ir_names.specs.Identifier.{text_of}
 use Rattle.ir_print.specs.Pieces.{ValueTree}
 use Rattle.ir_print.specs.Shown.{Pairs, ShowsType}
 use Rattle.ir_program.specs.Program.{OperationView, RegionView, TypedValue}
@@ -13,18 +12,19 @@ use Rattle.ir_program.specs.declared.handles.Value.{Value}
 use Rattle.ir_trees.specs.Renames.{names_of}
 use Rattle.ir_trees.specs.Stands.{by_handle, head_of, defined_by, AreTree, no_operations, no_blocks, no_regions, first_operation, first_block, first_region}
 use Rattle.ir_trees.specs.Trees.{Operations, Blocks, Regions}
+use Rattle.kit.specs.Context.{KitContext}
 use Rattle.opt_trees.specs.Occurrences.{Has}
 use Rattle.text_dialect.specs.Seen.{seen, seen_operation, seen_block, types_of}
-use Rattle.text_dialect.specs.Standing.{Naming, HasDefinition, HasHead, HasOwnLabel, IsLabel, HaveRegionTrees, HaveBlockTrees, HaveTrees}
+use Rattle.text_dialect.specs.Standing.{Naming, HasDefinition, HasHead, HasOwnLabel, HaveRegionTrees, HaveBlockTrees, HaveTrees}
 use Rattle.kit.specs.Meaning.{KitOperation}
 use Rattle.kit.specs.Says.{says}
-use Rattle.kit_writable_trees.specs.Laws.{WritableContext}
 use Rattle.kit_writable_trees.specs.Writable.{types_in, count_of, IsWritableHead, IsWritable}
 use Rattle.kit_written_trees.proofs.Known.{KnownAll}
 use Rattle.kit_written_trees.proofs.Edges.{BlocksKnown}
-use Rattle.kit_written_trees.proofs.Written.{Part, named_so, written}
+use Rattle.ir_print.specs.Printed.{IsLabel}
+use Rattle.kit_written_trees.proofs.Written.{Part, own_label, named_so, written}
 
-module _ {N : Type 0} (s : WritableContext) (ν : Value → N) (β : Ptr BasicBlock → N) (Named : Naming N)
+module _ {N : Type 0} (s : KitContext) (ν : Value → N) (β : Ptr BasicBlock → N) (Named : Naming N)
     (Known : Value → Type 0) (KnownBlock : Ptr BasicBlock → Type 0) (named : (v : Value) → Known v → Named.value v (ν v))
     (block_named : (b : Ptr BasicBlock) → KnownBlock b → Named.block b (β b)) where
   -- the types of definitions are those of the values
@@ -54,8 +54,9 @@ module _ {N : Type 0} (s : WritableContext) (ν : Value → N) (β : Ptr BasicBl
   next_so [] known = tt
   next_so (b ∷ bs) known = (block_named b (known b (inl refl)), next_so bs (λ c has. known c (inr has)))
 
-  label_is : (v : Option Identifier) (id : Identifier) → v ≡ Some id → IsLabel v (text_of id)
-  label_is v id e = subst (λ o. IsLabel o (text_of id)) (sym e) refl
+  label_is : (v : Option Identifier) → IsLabel v (own_label v)
+  label_is None = refl
+  label_is (Some id) = refl
 
   pub head_so : (d regions : ℕ) (p : Ptr Operation) (v : OperationView KitOperation)
       (w : IsWritableHead {N = by_handle} s.types.keys d regions (head_of p v))
@@ -99,7 +100,7 @@ module _ {N : Type 0} (s : WritableContext) (ν : Value → N) (β : Ptr BasicBl
         ap (option_map (λ (z : RegionView). z.blocks)) there,
         have_block_trees e v.blocks bs w.0 inner known.0 blocks.0,
       ),
-      have_region_trees (suc e) rs rest w.2 after known.1 blocks.1,
+      have_region_trees (suc e) rs rest w.1 after known.1 blocks.1,
     )
 
     pub have_block_trees : (d : ℕ) (bs : List (Ptr BasicBlock)) (x : Part Blocks)
@@ -111,7 +112,7 @@ module _ {N : Type 0} (s : WritableContext) (ν : Value → N) (β : Ptr BasicBl
         seen_block v,
         ap (option_map seen_block) there,
         record {
-          labelled = label_is v.payload.label w.0.labelled.0 w.0.labelled.1;
+          labelled = label_is v.payload.label;
           no_attributes = ap length w.0.no_attributes;
         },
         block_named b blocks.0,

@@ -15,6 +15,7 @@ use Rattle.ir_program.specs.declared.handles.Value.{Value}
 use Rattle.ir_trees.specs.Searched.{AreDistinct, block_names}
 use Rattle.ir_trees.specs.Renames.{names_of}
 use Rattle.ir_trees.specs.Stands.{by_handle, head_of, ProgramHead, StandsFor}
+use Rattle.kit.specs.Context.{KitContext, KitTree}
 use Rattle.opt_trees.specs.Occurrences.{Has, defined_in}
 use Rattle.text_dialect.specs.Seen.{seen, seen_operation}
 use Rattle.text_dialect.specs.Standing.{HasHead, HasOwnLabel, StandsForTexts}
@@ -27,7 +28,6 @@ use Rattle.kit_ruled_passes.specs.Scopes.{IsNone, Scoped}
 use Rattle.kit.specs.Says.{says, values}
 use Rattle.kit.specs.Forms.{formats}
 use Rattle.kit.specs.Readable.{says_types, says_attributes, says_operations}
-use Rattle.kit_writable_trees.specs.Laws.{WritableContext, WritableTree}
 use Rattle.kit_writable_trees.specs.Writable.{count_of, IsWritableHead, IsWritableRoot}
 use Rattle.kit_views.proofs.Lists.{has_get}
 use Rattle.kit_written_trees.specs.Laws.{AreToldByNumbers, HasText}
@@ -37,10 +37,9 @@ use Rattle.kit_written_trees.proofs.Known.{regions_known, has_right, has_parts}
 use Rattle.kit_written_trees.proofs.Numbered.{place_in, is_found, are_numbered}
 use Rattle.kit_written_trees.proofs.Scoping.{in_by_has, scope_kept, names_same, definitions_same, all_in, regions_scoped}
 use Rattle.kit_written_trees.proofs.Standing.{head_so, have_region_trees}
-use Rattle.kit_written_trees.proofs.Written.{named_so, head_text, written, shapes_so, as_many, are_regions, is_shallow, is_bare, is_labelled, none_labelled, none_twice}
-use Rattle.ir_forest.specs.Closed.{AllDistinct}
+use Rattle.kit_written_trees.proofs.Written.{named_so, head_text, written, shapes_so, as_many, are_regions, is_shallow, is_bare}
 
-module _ (s : WritableContext) (root : Ptr Operation) (t : WritableTree) (stands : StandsFor s.program root t)
+module _ (s : KitContext) (root : Ptr Operation) (t : KitTree) (stands : StandsFor s.program root t)
     (w : IsWritableRoot {N = by_handle} s.types.keys t) (no_results : t.head.results ≡ []) (no_operands : t.head.operands ≡ [])
     (no_successors : t.head.successors ≡ []) (scoped : Scoped t.regions IsNone) (edges : HasScopedEdges t)
     (distinct : AreDistinct (defined_in t.regions)) (told : AreToldByNumbers (defined_in t.regions))
@@ -131,10 +130,6 @@ module _ (s : WritableContext) (root : Ptr Operation) (t : WritableTree) (stands
       have_edges s.types.keys ν β 64 t.regions w.regions (IsNoBlock by_handle) [] edges (λ b none. absurd none),
     );
     shallow = (w.head.flat, is_shallow s.types.keys ν β 64 t.regions w.regions);
-    labelled = (
-      subst AllDistinct (sym (none_labelled s.types.keys ν β 64 t.regions w.regions)) none_twice,
-      is_labelled s.types.keys ν β 64 t.regions w.regions,
-    );
     bare = (w.head.bare, is_bare s.types.keys ν β 64 t.regions w.regions);
   }
 

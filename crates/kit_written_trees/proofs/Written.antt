@@ -1,10 +1,10 @@
 -- The tree of texts of a tree that can be written.
-use Rattle.std.proofs.Common.{◌≡◌, ◌∙◌, ℕ, zero, suc, List, [], ◌∷◌, ◌++◌, map, Some, refl, ap, sym, subst, slice_get}
-use Rattle.std.proofs.lemmas.Option.{none-some}
+use Rattle.std.proofs.Common.{◌≡◌, ◌∙◌, ℕ, zero, suc, List, [], ◌∷◌, map, Option, Some, None, refl, ap, sym, slice_get}
 use Rattle.ir_base.specs.declared.types.TypeHandle.{TypeHandle}
+use Rattle.ir_names.specs.declared.identifier.Identifier.{Identifier}
 use Rattle.ir_names.specs.Identifier.{text_of}
 use Rattle.ir_forest.specs.Bare.{AreBareTrees, IsBare, AreBareArguments}
-use Rattle.ir_forest.specs.Closed.{AllDistinct, AreLabelled, labels_of, number_in, AreOperations, AreBlocks, AreRegions}
+use Rattle.ir_forest.specs.Closed.{number_in, AreOperations, AreBlocks, AreRegions}
 use Rattle.ir_print.specs.Layout.{IsFlat, AreShallow, AreFlatArguments}
 use Rattle.ir_print.specs.Pieces.{ValueTree, operation, a_region, block, EntityHead, entity, Entities, no_entity, an_entity}
 use Rattle.ir_print.specs.Shown.{Pairs}
@@ -19,15 +19,16 @@ use Rattle.kit_checks.specs.Sites.{Listed}
 use Rattle.kit_ops.specs.declared.types.KitType.{KitType}
 use Rattle.kit.specs.Says.{values}
 use Rattle.opt_trees.proofs.Lists.{length-map}
-use Rattle.kit_writable_trees.specs.Writable.{types_in, count_of, label_text, labels_in, IsWritableHead, IsWritableLabel, IsWritable}
+use Rattle.kit_writable_trees.specs.Writable.{types_in, count_of, IsWritableHead, IsWritableLabel, IsWritable}
 
 -- parts of trees of `kit`
 abbrev pub Part : Sort → Type 0
 Part s = Listed KitOperation KitBlock s
 
--- nothing is twice in no list
-pub none_twice : {X : Type 0} → AllDistinct {N = X} []
-none_twice i j x e f = absurd (none-some x e)
+-- the label of a block: the empty one where it has none
+abbrev pub own_label : Option Identifier → List ℕ
+own_label None = []
+own_label (Some id) = text_of id
 
 module _ {N : Type 0} (types : List KitType) (ν : Value → N) (β : Ptr BasicBlock → N) where
   -- definitions by their names, with the types that are written beside them
@@ -41,7 +42,7 @@ module _ {N : Type 0} (types : List KitType) (ν : Value → N) (β : Ptr BasicB
   head_text d regions h w = operation w.kind (named_so h.results w.shapes) (map ν h.operands) (map β h.successors) w.pieces
 
   abbrev pub label_so : (d : ℕ) (l : ProgramLabel KitOperation KitBlock) → IsWritableLabel {N = by_handle} types d l → EntityHead N
-  label_so d l w = block (β l.name) (text_of w.labelled.0) (named_so l.arguments w.arguments.shapes)
+  label_so d l w = block (β l.name) (own_label l.content.label) (named_so l.arguments w.arguments.shapes)
 
   abbrev pub written : {s : Sort} (d : ℕ) (x : Part s) → IsWritable {N = by_handle} types d x → Entities N
   written d end w = no_entity
@@ -49,7 +50,7 @@ module _ {N : Type 0} (types : List KitType) (ν : Value → N) (β : Ptr BasicB
       an_entity (entity (head_text d (count_of rs) h w.0) (written d rs w.1)) (written d rest w.2)
   written d (tree.block l os rest) w = an_entity (entity (label_so d l w.0) (written d os w.1)) (written d rest w.2)
   written zero (tree.region bs rest) w = absurd w.0
-  written (suc e) (tree.region bs rest) w = an_entity (entity a_region (written e bs w.0)) (written (suc e) rest w.2)
+  written (suc e) (tree.region bs rest) w = an_entity (entity a_region (written e bs w.0)) (written (suc e) rest w.1)
 
   -- ---- shapes
 
@@ -76,7 +77,7 @@ module _ {N : Type 0} (types : List KitType) (ν : Value → N) (β : Ptr BasicB
   pub as_many : (d : ℕ) (x : Part Regions) (w : IsWritable {N = by_handle} types d x) → number_in (written d x w) ≡ count_of x
   as_many d end w = refl
   as_many zero (tree.region bs rest) w = absurd w.0
-  as_many (suc e) (tree.region bs rest) w = ap suc (as_many (suc e) rest w.2)
+  as_many (suc e) (tree.region bs rest) w = ap suc (as_many (suc e) rest w.1)
 
   -- ---- operations are as their pieces say
 
@@ -97,7 +98,7 @@ module _ {N : Type 0} (types : List KitType) (ν : Value → N) (β : Ptr BasicB
     pub are_regions : (d : ℕ) (x : Part Regions) (w : IsWritable {N = by_handle} types d x) → AreRegions values (written d x w)
     are_regions d end w = tt
     are_regions zero (tree.region bs rest) w = absurd w.0
-    are_regions (suc e) (tree.region bs rest) w = (are_blocks e bs w.0, are_regions (suc e) rest w.2)
+    are_regions (suc e) (tree.region bs rest) w = (are_blocks e bs w.0, are_regions (suc e) rest w.1)
 
     pub are_blocks : (d : ℕ) (x : Part Blocks) (w : IsWritable {N = by_handle} types d x) → AreBlocks values (written d x w)
     are_blocks d end w = tt
@@ -111,7 +112,7 @@ module _ {N : Type 0} (types : List KitType) (ν : Value → N) (β : Ptr BasicB
   is_shallow d (tree.block l os rest) w =
       ((flat_so d l.arguments w.0.arguments.shapes w.0.arguments.flat, is_shallow d os w.1), is_shallow d rest w.2)
   is_shallow zero (tree.region bs rest) w = absurd w.0
-  is_shallow (suc e) (tree.region bs rest) w = ((tt, is_shallow e bs w.0), is_shallow (suc e) rest w.2)
+  is_shallow (suc e) (tree.region bs rest) w = ((tt, is_shallow e bs w.0), is_shallow (suc e) rest w.1)
 
   pub is_bare : {s : Sort} (d : ℕ) (x : Part s) (w : IsWritable {N = by_handle} types d x) → AreBareTrees (written d x w)
   is_bare d end w = tt
@@ -119,32 +120,4 @@ module _ {N : Type 0} (types : List KitType) (ν : Value → N) (β : Ptr BasicB
   is_bare d (tree.block l os rest) w =
       ((bare_so l.arguments w.0.arguments.shapes w.0.arguments.bare, is_bare d os w.1), is_bare d rest w.2)
   is_bare zero (tree.region bs rest) w = absurd w.0
-  is_bare (suc e) (tree.region bs rest) w = ((tt, is_bare e bs w.0), is_bare (suc e) rest w.2)
-
-  -- ---- labels
-
-  pub labels_same : (d : ℕ) (x : Part Blocks) (w : IsWritable {N = by_handle} types d x)
-      → labels_of (written d x w) ≡ labels_in x
-  labels_same d end w = refl
-  labels_same d (tree.block l os rest) w =
-      ap (λ cs. (text_of w.0.labelled.0 ∷ []) ++ cs) (labels_same d rest w.2)
-      ∙ ap (λ o. label_text o ++ labels_in rest) (sym w.0.labelled.1)
-
-  no_labels : (d : ℕ) (x : Part Operations) (w : IsWritable {N = by_handle} types d x) → labels_of (written d x w) ≡ []
-  no_labels d end w = refl
-  no_labels d (tree.operation h rs rest) w = no_labels d rest w.2
-
-  pub none_labelled : (d : ℕ) (x : Part Regions) (w : IsWritable {N = by_handle} types d x) → labels_of (written d x w) ≡ []
-  none_labelled d end w = refl
-  none_labelled zero (tree.region bs rest) w = absurd w.0
-  none_labelled (suc e) (tree.region bs rest) w = none_labelled (suc e) rest w.2
-
-  pub is_labelled : {s : Sort} (d : ℕ) (x : Part s) (w : IsWritable {N = by_handle} types d x) → AreLabelled (written d x w)
-  is_labelled d end w = tt
-  is_labelled d (tree.operation h rs rest) w =
-      ((subst AllDistinct (sym (none_labelled d rs w.1)) none_twice, is_labelled d rs w.1), is_labelled d rest w.2)
-  is_labelled d (tree.block l os rest) w =
-      ((subst AllDistinct (sym (no_labels d os w.1)) none_twice, is_labelled d os w.1), is_labelled d rest w.2)
-  is_labelled zero (tree.region bs rest) w = absurd w.0
-  is_labelled (suc e) (tree.region bs rest) w =
-      ((subst AllDistinct (sym (labels_same e bs w.0)) w.1, is_labelled e bs w.0), is_labelled (suc e) rest w.2)
+  is_bare (suc e) (tree.region bs rest) w = ((tt, is_bare e bs w.0), is_bare (suc e) rest w.1)

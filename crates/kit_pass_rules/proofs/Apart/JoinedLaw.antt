@@ -3,11 +3,13 @@ use Rattle.std.proofs.Common.{Option, None, slice_get, sym, ap, ◌∙◌, subst
 use Rattle.ir_base.specs.declared.types.TypeHandle.{TypeHandle}
 use Rattle.ir_program.specs.declared.handles.Value.{Value}
 use Rattle.ir_trees.specs.Trees.{Regions}
+use Rattle.kit.specs.Context.{KitTree}
 use Rattle.kit.specs.Meaning.{kit}
+use Rattle.kit_checks.specs.KitWorld.{HasDeclaredTypes}
 use Rattle.kit_checks.specs.Words.{values_of}
 use Rattle.kit_ops.specs.declared.types.KitType.{KitType}
 use Rattle.kit_pass_rules.specs.Laws.{IsGood}
-use Rattle.kit_pass_rules.specs.Worlds.{PassedTree, HandlesAreApart, IsTypedIn}
+use Rattle.kit_pass_rules.specs.Worlds.{HandlesAreApart}
 use Rattle.kit_pass_rules.specs.ChainLaws.{DefinersApart, JoinedStaysGood, JoinedChainsKeepRules}
 use Rattle.kit_pass_rules.proofs.Apart.OccurrenceLemmas.{each_operation, each_block, operations_apart, blocks_apart}
 use Rattle.kit_pass_rules.proofs.Chains.InversionLemmas.{KitList, Becomes}
@@ -17,13 +19,13 @@ use Rattle.kit_pass_rules.proofs.Rules.TypeLemmas.{with_types}
 use Rattle.opt_trees.specs.Occurrences.{Has}
 use Rattle.opt_trees.specs.Simplify.{all_of, use_head, use_instead, Follows, ArgumentsApart}
 
-module _ (leads : TypeHandle → Option KitType) (typed : Value → Option TypeHandle) (t : PassedTree)
+module _ (leads : TypeHandle → Option KitType) (typed : Value → Option TypeHandle) (t : KitTree)
     (good : IsGood leads typed t)
     (names : Value → Value) (made : KitList Regions) (joins : Becomes t None Regions t.regions made) where
-  abbrev joined : PassedTree
+  abbrev joined : KitTree
   joined = record { head = use_head names t.head; regions = use_instead names made }
 
-  typed_in : IsTypedIn typed joined
+  typed_in : HasDeclaredTypes typed joined
   typed_in = record {
     results = λ o h d i.
         let w = each_operation kit (all_of t) t (orderly leads typed t good) (is_local leads typed t good) names made

@@ -9,7 +9,9 @@ use Rattle.ir_program.specs.declared.handles.Ptr.{Ptr}
 use Rattle.ir_program.specs.declared.handles.BasicBlock.{BasicBlock}
 use Rattle.ir_program.specs.declared.handles.Value.{Value}
 use Rattle.ir_trees.specs.Trees.{Sort, Operations, Blocks, Regions, end, operation}
+use Rattle.kit.specs.Context.{KitTree}
 use Rattle.kit.specs.Meaning.{kit}
+use Rattle.kit_checks.specs.KitWorld.{kit_world}
 use Rattle.kit_checks.specs.Rules as rules
 use Rattle.kit_checks.specs.Sites.{block_list, operation_list, region_list}
 use Rattle.kit_checks.specs.Words.{values_of, results_of, values_before, values_if, first_body, visible}
@@ -19,7 +21,6 @@ use Rattle.kit_checks.proofs.Passed.{in_joined}
 use Rattle.kit_ops.specs.declared.kinds.KitOp.TheVariants as ops
 use Rattle.kit_ops.specs.declared.types.KitType.{KitType}
 use Rattle.kit_pass_rules.specs.Laws.{IsGood}
-use Rattle.kit_pass_rules.specs.Worlds.{PassedTree, kit_world}
 use Rattle.kit_pass_rules.proofs.Lists.{has_at_index, index_of_has}
 use Rattle.kit_pass_rules.proofs.Walk.{block_of, within, occurrence_of}
 use Rattle.kit_pass_rules.specs.ChainLaws.{DefinersApart}
@@ -51,7 +52,7 @@ but_last_heads (operation h rs (operation g qs rest)) zero e = absurd (omega (ar
 but_last_heads (operation h rs (operation g qs rest)) (suc k) e =
     ap (λ l. h ∷ l) (but_last_heads (operation g qs rest) k (omega (arith, e)))
 
-but_last_get : (xs : KitList Operations) (k : ℕ) (z : PassedTree) → slice_get (operation_list (but_last xs)) k ≡ Some z →
+but_last_get : (xs : KitList Operations) (k : ℕ) (z : KitTree) → slice_get (operation_list (but_last xs)) k ≡ Some z →
     (slice_get (operation_list xs) k ≡ Some z) × (k + 1 < length (operation_list xs))
 but_last_get end k z e = absurd (none_some z e)
 but_last_get (operation h rs end) k z e = absurd (none_some z e)
@@ -65,16 +66,16 @@ append_list : (xs ys : KitList Operations) → operation_list (append xs ys) ≡
 append_list end ys = refl
 append_list (operation h rs rest) ys = ap (λ l. record { head = h; regions = rs } ∷ l) (append_list rest ys)
 
-heads_append : (us vs : List PassedTree) → heads (us ++ vs) ≡ heads us ++ heads vs
+heads_append : (us vs : List KitTree) → heads (us ++ vs) ≡ heads us ++ heads vs
 heads_append [] vs = refl
 heads_append (u ∷ us) vs = ap (λ l. u.head ∷ l) (heads_append us vs)
 
 -- what a list defines whose last operation defines nothing
-but_last_defined : (v : Value) (us : List PassedTree) (k : ℕ) (u : PassedTree) → slice_get us k ≡ Some u → k + 1 ≡ length us →
+but_last_defined : (v : Value) (us : List KitTree) (k : ℕ) (u : KitTree) → slice_get us k ≡ Some u → k + 1 ≡ length us →
     u.head.results ≡ [] → Has v (defined_by (heads us)) → Has v (defined_by (take k (heads us)))
 but_last_defined v [] k u e n r h = absurd h
 but_last_defined v (x ∷ []) zero u e n r h =
-    subst (λ l. Has v (values_of l ++ [])) (ap (λ (z : PassedTree). z.head.results) (some_same x u e) ∙ r) h
+    subst (λ l. Has v (values_of l ++ [])) (ap (λ (z : KitTree). z.head.results) (some_same x u e) ∙ r) h
 but_last_defined v (x ∷ []) (suc k) u e n r h = absurd (none_some u e)
 but_last_defined v (x ∷ (y ∷ us)) zero u e n r h = absurd (omega (arith, n))
 but_last_defined v (x ∷ (y ∷ us)) (suc k) u e n r h = ⊎_elim
@@ -106,7 +107,7 @@ no_length (x ∷ xs) e = absurd (omega (arith, e))
 wider : (v : Value) (base xs ys : List Value) → (Has v xs → Has v ys) → Has v (base ++ xs) → Has v (base ++ ys)
 wider v base xs ys f h = ⊎_elim (λ a. has-left v base ys a) (λ b. has-right v base ys (f b)) (has-append v base xs h)
 
-module _ (leads : TypeHandle → Option KitType) (old : Value → Option TypeHandle) (t : PassedTree)
+module _ (leads : TypeHandle → Option KitType) (old : Value → Option TypeHandle) (t : KitTree)
     (good : IsGood leads old t)
     (definers : DefinersApart t) (top : BlockStep t) where
   abbrev pub Follow : Value → Value → Type 0
@@ -121,12 +122,12 @@ module _ (leads : TypeHandle → Option KitType) (old : Value → Option TypeHan
     pub entry : (v y : Value) → Has v (cond (n == 0) [] entry_values) → Follow v y → Has y base
 
   -- where an operation of the joined list has come from
-  pub record Source (base : List Value) (all : KitList Operations) (k : ℕ) (z : PassedTree) : Type 0 where
+  pub record Source (base : List Value) (all : KitList Operations) (k : ℕ) (z : KitTree) : Type 0 where
     pub number : ℕ
     pub body : KitBody
     pub block_here : slice_get (block_list top.blocks) number ≡ Some body
     pub index : ℕ
-    pub it : PassedTree
+    pub it : KitTree
     pub here : slice_get (operation_list body.operations) index ≡ Some it
     pub head : it.head ≡ z.head
     pub regions_become : Becomes t None Regions it.regions z.regions
@@ -141,7 +142,7 @@ module _ (leads : TypeHandle → Option KitType) (old : Value → Option TypeHan
 
   pub record Chained (base : List Value) (all : KitList Operations) : Type 0 where
     pub filled : top.s.op.head.content.kind ≡ ops.Func → 0 < length (operation_list all)
-    pub sources : (k : ℕ) (z : PassedTree) → slice_get (operation_list all) k ≡ Some z → Source base all k z
+    pub sources : (k : ℕ) (z : KitTree) → slice_get (operation_list all) k ≡ Some z → Source base all k z
 
   abbrev block_in : (n : ℕ) (body : KitBody) → slice_get (block_list top.blocks) n ≡ Some body → BlockStep t
   block_in n body h = beside t top n body h
@@ -261,8 +262,8 @@ module _ (leads : TypeHandle → Option KitType) (old : Value → Option TypeHan
     ended own none a =
         let same : hs own ≡ hs body.operations = are t None Operations body.operations own a in
         let many : length (operation_list own) ≡ length (operation_list body.operations) =
-        sym (length-map (λ (u : PassedTree). u.head) (operation_list own))
-        ∙ (ap length same ∙ length-map (λ (u : PassedTree). u.head) (operation_list body.operations)) in
+        sym (length-map (λ (u : KitTree). u.head) (operation_list own))
+        ∙ (ap length same ∙ length-map (λ (u : KitTree). u.head) (operation_list body.operations)) in
         record {
           filled = λ f. let m = not_empty n body h f in omega (arith, m, many);
           sources = λ k z e.
@@ -339,7 +340,7 @@ module _ (leads : TypeHandle → Option KitType) (old : Value → Option TypeHan
         many : length (operation_list all) ≡ length (operation_list own) + length (operation_list others)
         many = ap length list_is ∙ length_append (operation_list own) (operation_list others)
 
-        from_own : (k : ℕ) (z : PassedTree) → slice_get (operation_list own) k ≡ Some z → Source base all k z
+        from_own : (k : ℕ) (z : KitTree) → slice_get (operation_list own) k ≡ Some z → Source base all k z
         from_own k z e =
             let w = were t None Operations (but_last body.operations) own a k z e in
             let at = but_last_get body.operations k w.it w.here in
@@ -350,9 +351,9 @@ module _ (leads : TypeHandle → Option KitType) (old : Value → Option TypeHan
             let l : (last_here n body h next j).k + 1 ≡ length (operation_list body.operations) =
             (last_index n body h next j) in
             let ho : length (hs own) ≡ length (operation_list own) =
-            length-map (λ (u : PassedTree). u.head) (operation_list own) in
+            length-map (λ (u : KitTree). u.head) (operation_list own) in
             let hb : length (hs body.operations) ≡ length (operation_list body.operations) =
-            length-map (λ (u : PassedTree). u.head) (operation_list body.operations) in
+            length-map (λ (u : KitTree). u.head) (operation_list body.operations) in
             let same : take k (hs all) ≡ take k (hs body.operations) =
             ap (take k) heads_is
             ∙ (take_front (hs own) (hs others) k (omega (arith, within_own, ho))
@@ -385,11 +386,11 @@ module _ (leads : TypeHandle → Option KitType) (old : Value → Option TypeHan
             no_module : ops.Module ≡ ops.Func → ⊥
             no_module e = cc e
 
-        from_others : (k i : ℕ) (z : PassedTree) → k ≡ length (operation_list own) + i → Source next_base others i z →
+        from_others : (k i : ℕ) (z : KitTree) → k ≡ length (operation_list own) + i → Source next_base others i z →
             Source base all k z
         from_others k i z e w =
             let ho : length (hs own) ≡ length (operation_list own) =
-            length-map (λ (u : PassedTree). u.head) (operation_list own) in
+            length-map (λ (u : KitTree). u.head) (operation_list own) in
             let same : take k (hs all) ≡ hs own ++ take i (hs others) =
             ap (take k) heads_is ∙ take_behind (hs own) (hs others) k i (omega (arith, e, ho)) in
             record {

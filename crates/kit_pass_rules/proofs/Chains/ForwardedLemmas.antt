@@ -6,7 +6,9 @@ use Rattle.ir_program.specs.declared.handles.Ptr.{Ptr}
 use Rattle.ir_program.specs.declared.handles.BasicBlock.{BasicBlock}
 use Rattle.ir_program.specs.declared.handles.Value.{Value}
 use Rattle.ir_trees.specs.Trees.{Defined}
+use Rattle.kit.specs.Context.{KitTree}
 use Rattle.kit.specs.Meaning.{kit, range, first_size, forwards_of}
+use Rattle.kit_checks.specs.KitWorld.{kit_world}
 use Rattle.kit_checks.specs.Rules as rules
 use Rattle.kit_checks.specs.Sites.{block_list, operation_list}
 use Rattle.kit_checks.specs.Words.{types_of, values_of, is_branch, along_edge, segment_sizes, sizes_or_none}
@@ -16,7 +18,6 @@ use Rattle.kit_ops.specs.declared.kinds.KitOp.{KitOp}
 use Rattle.kit_ops.specs.declared.kinds.KitOp.TheVariants as ops
 use Rattle.kit_ops.specs.declared.types.KitType.{KitType}
 use Rattle.kit_pass_rules.specs.Laws.{IsGood}
-use Rattle.kit_pass_rules.specs.Worlds.{PassedTree, kit_world}
 use Rattle.kit_pass_rules.proofs.Lists.{map_get, map_at, has_at_index, index_of_has}
 use Rattle.kit_pass_rules.proofs.Walk.{block_of, within, occurrence_of}
 use Rattle.kit_pass_rules.specs.ChainLaws.{DefinersApart}
@@ -40,12 +41,12 @@ picks_all all (y ∷ ys) s h =
     (λ i. cons_if ((ap (slice_get all) z ∙ h 0) i) (picks_all all ys (suc s) (λ i. let q : suc s + i ≡ s + suc i =
     omega arith in ap (slice_get all) q ∙ h (suc i)) i))
 
-module _ (leads : TypeHandle → Option KitType) (old : Value → Option TypeHandle) (t : PassedTree)
+module _ (leads : TypeHandle → Option KitType) (old : Value → Option TypeHandle) (t : KitTree)
     (good : IsGood leads old t) where
   -- the end of a block that another is joined to
   pub record LastStep (x : BlockStep t) (b c : Ptr BasicBlock) (j : JoinsTo t b c) : Type 0 where
     pub k : ℕ
-    pub u : PassedTree
+    pub u : KitTree
     pub here : slice_get (operation_list x.body.operations) k ≡ Some u
     pub is : j.last ≡ occurrence_of (within (block_stands t x).spot x.body) u
     pub names_next : Has c u.head.successors
@@ -57,7 +58,7 @@ module _ (leads : TypeHandle → Option KitType) (old : Value → Option TypeHan
     pub target : j.target ≡ block_of (block_stands t (beside t x number next next_here)).spot next
     pub types : map old u.head.operands ≡ map Some (types_of next.label.arguments)
 
-  is_plain : (k : KitOp) (u : PassedTree) (c : Ptr BasicBlock) → IsBranchKind leads old t good k →
+  is_plain : (k : KitOp) (u : KitTree) (c : Ptr BasicBlock) → IsBranchKind leads old t good k →
       rules.FitsKind (kit_world leads old) u k →
       u.head.successors ≡ c ∷ [] → k ≡ ops.Br
   is_plain _ u c plain f e = refl

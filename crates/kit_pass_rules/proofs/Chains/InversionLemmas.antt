@@ -5,9 +5,9 @@ use Rattle.ir_program.specs.declared.handles.Ptr.{Ptr}
 use Rattle.ir_program.specs.declared.handles.BasicBlock.{BasicBlock}
 use Rattle.ir_trees.specs.Stands.{by_handle, in_program}
 use Rattle.ir_trees.specs.Trees.{Sort, Operations, Blocks, Regions, end, operation, block, region}
+use Rattle.kit.specs.Context.{KitTree}
 use Rattle.kit.specs.Meaning.{KitOperation, KitBlock, kit}
 use Rattle.kit_checks.specs.Sites.{Listed, Body, operation_list, block_list, region_list}
-use Rattle.kit_pass_rules.specs.Worlds.{PassedTree}
 use Rattle.kit_pass_rules.proofs.Chains.ListLemmas.{KitHead, heads}
 use Rattle.opt_trees.specs.Occurrences.{Has, BlockOccurrence, block_occurrences_of}
 use Rattle.opt_trees.specs.Simplify.{all_of, Joinable, Joins, ends, operations, regions, taken, first, chain_ends}
@@ -20,7 +20,7 @@ KitList s = Listed KitOperation KitBlock s
 abbrev pub KitBody : Type 0
 KitBody = Body KitOperation KitBlock
 
-module _ (t : PassedTree) where
+module _ (t : KitTree) where
   abbrev pub JoinsTo : Ptr BasicBlock → Ptr BasicBlock → Type 0
   JoinsTo b c = Joinable kit (all_of t) t b c
 
@@ -32,8 +32,8 @@ module _ (t : PassedTree) where
   IsHead b = (a : Ptr BasicBlock) → JoinsTo a b → ⊥
 
   -- an operation has come from the one at its index
-  pub record WasOperation (x : KitList Operations) (k : ℕ) (u : PassedTree) : Type 0 where
-    pub it : PassedTree
+  pub record WasOperation (x : KitList Operations) (k : ℕ) (u : KitTree) : Type 0 where
+    pub it : KitTree
     pub here : slice_get (operation_list x) k ≡ Some it
     pub head : it.head ≡ u.head
     pub regions_become : Becomes None Regions it.regions u.regions
@@ -55,7 +55,7 @@ module _ (t : PassedTree) where
   abbrev pub AllWere : Option (Ptr BasicBlock) → (s : Sort) → KitList s → KitList s → Type 0
   AllWere (Some b) s x u = Unit {0}
   AllWere None Operations x u =
-      (k : ℕ) (z : PassedTree) → slice_get (operation_list u) k ≡ Some z → WasOperation x k z
+      (k : ℕ) (z : KitTree) → slice_get (operation_list u) k ≡ Some z → WasOperation x k z
   AllWere None Blocks x u = (k : ℕ) (z : KitBody) → slice_get (block_list u) k ≡ Some z → WasBlock x k z
   AllWere None Regions x u =
       (k : ℕ) (z : KitList Blocks) → slice_get (region_list u) k ≡ Some z → WasRegion x k z
@@ -71,8 +71,8 @@ module _ (t : PassedTree) where
   first_operation h rs qs rest more a b zero z e = record {
     it = record { head = h; regions = rs };
     here = refl;
-    head = ap (λ (w : PassedTree). w.head) (some_same (record { head = h; regions = qs }) z e);
-    regions_become = subst (λ (w : PassedTree). Becomes None Regions rs w.regions)
+    head = ap (λ (w : KitTree). w.head) (some_same (record { head = h; regions = qs }) z e);
+    regions_become = subst (λ (w : KitTree). Becomes None Regions rs w.regions)
         (some_same (record { head = h; regions = qs }) z e) a;
   }
   first_operation h rs qs rest more a b (suc k) z e =

@@ -4,9 +4,9 @@ use Rattle.std.proofs.Common.{length, Some, slice_get, refl, ap, ◌∙◌, arit
 use Rattle.ir_program.specs.declared.handles.Value.{Value}
 use Rattle.ir_trees.specs.Stands.{by_handle, in_program}
 use Rattle.ir_trees.specs.Trees.{Head}
+use Rattle.kit.specs.Context.{KitTree}
 use Rattle.kit.specs.Meaning.{KitOperation, KitBlock}
 use Rattle.kit_checks.specs.Words.{values_of, results_of}
-use Rattle.kit_pass_rules.specs.Worlds.{PassedTree}
 use Rattle.opt_trees.specs.Occurrences.{Has}
 use Rattle.opt_trees.proofs.Lists.{none_some}
 use Rattle.opt_trees.proofs.NoneDead.{has-append, has-left, has-right}
@@ -54,24 +54,24 @@ abbrev pub KitHead : Type 0
 KitHead = Head by_handle (in_program KitOperation KitBlock)
 
 -- the heads of operations
-abbrev pub heads : List PassedTree → List KitHead
-heads us = map (λ (u : PassedTree). u.head) us
+abbrev pub heads : List KitTree → List KitHead
+heads us = map (λ (u : KitTree). u.head) us
 
 -- what operations with these heads define
 abbrev pub defined_by : List KitHead → List Value
 defined_by [] = []
 defined_by (h ∷ hs) = values_of h.results ++ defined_by hs
 
-pub results_are : (us : List PassedTree) → results_of us ≡ defined_by (heads us)
+pub results_are : (us : List KitTree) → results_of us ≡ defined_by (heads us)
 results_are [] = refl
 results_are (u ∷ us) = ap (λ l. values_of u.head.results ++ l) (results_are us)
 
-pub take_heads : (us : List PassedTree) (k : ℕ) → heads (take k us) ≡ take k (heads us)
+pub take_heads : (us : List KitTree) (k : ℕ) → heads (take k us) ≡ take k (heads us)
 take_heads us zero = refl
 take_heads [] (suc k) = refl
 take_heads (u ∷ us) (suc k) = ap (λ l. u.head ∷ l) (take_heads us k)
 
-pub results_taken : (us : List PassedTree) (k : ℕ) → results_of (take k us) ≡ defined_by (take k (heads us))
+pub results_taken : (us : List KitTree) (k : ℕ) → results_of (take k us) ≡ defined_by (take k (heads us))
 results_taken us k = results_are (take k us) ∙ ap defined_by (take_heads us k)
 
 pub defined_left : (v : Value) (xs ys : List KitHead) → Has v (defined_by xs) → Has v (defined_by (xs ++ ys))
@@ -86,8 +86,8 @@ defined_right v [] ys h = h
 defined_right v (x ∷ xs) ys h = has-right v (values_of x.results) (defined_by (xs ++ ys)) (defined_right v xs ys h)
 
 -- a result is one of an operation
-pub definer : (v : Value) (us : List PassedTree) → Has v (defined_by (heads us)) →
-    (k : ℕ) × (u : PassedTree) × (slice_get us k ≡ Some u) × Has v (values_of u.head.results)
+pub definer : (v : Value) (us : List KitTree) → Has v (defined_by (heads us)) →
+    (k : ℕ) × (u : KitTree) × (slice_get us k ≡ Some u) × Has v (values_of u.head.results)
 definer v [] h = absurd h
 definer v (u ∷ us) h = ⊎_elim (λ a. (0, u, refl, a))
     (λ b. let d = definer v us b in (suc d.0, d.1, d.2, d.3))

@@ -8,6 +8,7 @@ use Rattle.ir_program.specs.declared.handles.Ptr.{Ptr}
 use Rattle.ir_program.specs.declared.handles.BasicBlock.{BasicBlock}
 use Rattle.ir_program.specs.declared.handles.Value.{Value}
 use Rattle.ir_trees.specs.Trees.{Operations, Blocks, Regions}
+use Rattle.kit.specs.Context.{KitTree}
 use Rattle.kit.specs.Meaning.{kit}
 use Rattle.kit_checks.specs.Sites.{operation_list, block_list, region_list, site_from, site_at}
 use Rattle.kit_checks.specs.Words.{values_of, results_of, values_if, first_body, visible}
@@ -16,7 +17,6 @@ use Rattle.kit_checks.proofs.Everys.{at_index}
 use Rattle.kit_ops.specs.declared.kinds.KitOp.TheVariants as ops
 use Rattle.kit_ops.specs.declared.types.KitType.{KitType}
 use Rattle.kit_pass_rules.specs.Laws.{IsGood}
-use Rattle.kit_pass_rules.specs.Worlds.{PassedTree}
 use Rattle.kit_pass_rules.proofs.Lists.{map_get, map_at}
 use Rattle.kit_pass_rules.proofs.Walk.{within, occurrence_of, Standing, stands_root, child_of}
 use Rattle.kit_pass_rules.specs.ChainLaws.{DefinersApart}
@@ -32,32 +32,32 @@ use Rattle.opt_trees.specs.Simplify.{all_of, use_head, use_instead, Follows}
 use Rattle.opt_trees.proofs.Lists.{some_same, none_some, length-map}
 use Rattle.opt_trees.proofs.NoneDead.{has-append, has-left, has-right}
 
-module _ (leads : TypeHandle → Option KitType) (old : Value → Option TypeHandle) (t : PassedTree)
+module _ (leads : TypeHandle → Option KitType) (old : Value → Option TypeHandle) (t : KitTree)
     (good : IsGood leads old t)
     (definers : DefinersApart t) (names : Value → Value) (follows : (v : Value) →
     Follows kit (all_of t) t v (names v)) where
   -- what an operation has become, with all that is in it
-  pub record Became (u v : PassedTree) : Type 0 where
+  pub record Became (u v : KitTree) : Type 0 where
     pub made : KitList Regions
     pub becomes : Becomes t None Regions u.regions made
     pub is : v ≡ record { head = use_head names u.head; regions = use_instead names made }
 
   -- an operation of the tree with all that is in it
-  pub record Placed (u : PassedTree) : Type 0 where
+  pub record Placed (u : KitTree) : Type 0 where
     pub s : KitSite
-    pub outer : List PassedTree
+    pub outer : List KitTree
     pub up : Standing t s outer
     pub is : s.op ≡ u
 
   -- the operations around, and what has become of each
-  abbrev pub AllBecame : List PassedTree → List PassedTree → Type 0
+  abbrev pub AllBecame : List KitTree → List KitTree → Type 0
   AllBecame [] [] = Unit {0}
   AllBecame [] (v ∷ vs) = ⊥
   AllBecame (u ∷ us) [] = ⊥
   AllBecame (u ∷ us) (v ∷ vs) = Placed u × Became u v × AllBecame us vs
 
   -- what has become of an operation in a block of a region, and of what is around it
-  pub record Old (x : Step t) (v : PassedTree) (a : KitAround) : Type 0 where
+  pub record Old (x : Step t) (v : KitTree) (a : KitAround) : Type 0 where
     pub became : Became x.u v
     pub around : AllBecame (x.in_block.s.op ∷ x.in_block.outer) (a.owner ∷ a.outer)
     pub blocks_made : KitList Blocks
@@ -77,7 +77,7 @@ module _ (leads : TypeHandle → Option KitType) (old : Value → Option TypeHan
         (x.k ≡ a.index) × (heads (operation_list a.body.operations) ≡ map (use_head names)
         (heads (operation_list x.in_block.body.operations)))
 
-  abbrev pub after_of : KitList Regions → PassedTree
+  abbrev pub after_of : KitList Regions → KitTree
   after_of made = record { head = use_head names t.head; regions = use_instead names made }
 
   -- the block that one has come from: the entry alone becomes the entry
@@ -85,7 +85,7 @@ module _ (leads : TypeHandle → Option KitType) (old : Value → Option TypeHan
     pub was : WasBlock t bs k c
     pub entry : k ≡ 0 → was.number ≡ 0
 
-  was_in : (s : KitSite) (outer : List PassedTree) (up : Standing t s outer) (r : ℕ) (bs cs : KitList Blocks) →
+  was_in : (s : KitSite) (outer : List KitTree) (up : Standing t s outer) (r : ℕ) (bs cs : KitList Blocks) →
       slice_get (region_list s.op.regions) r ≡ Some bs →
       Becomes t None Blocks bs cs → (k : ℕ) (c : KitBody) → slice_get (block_list cs) k ≡ Some c → WasInRegion bs cs k c
   was_in s outer up r bs cs hr a zero c e =
@@ -125,7 +125,7 @@ module _ (leads : TypeHandle → Option KitType) (old : Value → Option TypeHan
   }
 
   -- one step down
-  module _ (s : KitSite) (outer : List PassedTree) (up : Standing t s outer) (r b : ℕ) (bs cs : KitList Blocks)
+  module _ (s : KitSite) (outer : List KitTree) (up : Standing t s outer) (r b : ℕ) (bs cs : KitList Blocks)
       (hr : slice_get (region_list s.op.regions) r ≡ Some bs)
       (becomes : Becomes t None Blocks bs cs) (c : KitBody) (hc : slice_get (block_list cs) b ≡ Some c) where
     pub region_was : WasInRegion bs cs b c
@@ -225,8 +225,8 @@ module _ (leads : TypeHandle → Option KitType) (old : Value → Option TypeHan
         region_was.was.it.operations c.operations region_was.was.chain
         region_was.was.number region_was.was.it region_was.was.here refl refl base starts
 
-    module _ (owner : PassedTree) (others : List PassedTree) (around : AllBecame (s.op ∷ outer) (owner ∷ others)) (k : ℕ)
-        (z : PassedTree) (hz : slice_get (operation_list c.operations) k ≡ Some z) where
+    module _ (owner : KitTree) (others : List KitTree) (around : AllBecame (s.op ∷ outer) (owner ∷ others)) (k : ℕ)
+        (z : KitTree) (hz : slice_get (operation_list c.operations) k ≡ Some z) where
       pub source : Source leads old t good definers top base c.operations k z
       source = chain_here.sources k z hz
 
@@ -299,10 +299,10 @@ module _ (leads : TypeHandle → Option KitType) (old : Value → Option TypeHan
   module _ (made : KitList Regions) (joins : Becomes t None Regions t.regions made) where
     pub data Came : KitSite → Type 0 where
       at_root : Came (record { op = after_of made; around = None })
-      below : (x : Step t) (v : PassedTree) (a : KitAround) → Old x v a → Came (record { op = v; around = Some a })
+      below : (x : Step t) (v : KitTree) (a : KitAround) → Old x v a → Came (record { op = v; around = Some a })
 
-    walk : (s : KitSite) (outer : List PassedTree) (up : Standing t s outer) (v : PassedTree) (br : Option KitAround)
-        (others : List PassedTree) → Became s.op v → AllBecame outer others →
+    walk : (s : KitSite) (outer : List KitTree) (up : Standing t s outer) (v : KitTree) (br : Option KitAround)
+        (others : List KitTree) → Became s.op v → AllBecame outer others →
         Came (record { op = v; around = br }) → (p : List ℕ) (site : KitSite) →
         site_from (record { op = v; around = br }) others p ≡ Some site → Came site
     walk s outer up v br others became around came [] site e =
@@ -313,7 +313,7 @@ module _ (leads : TypeHandle → Option KitType) (old : Value → Option TypeHan
         let there : KitSite = record { op = v; around = br } in
         let st = stepped there others r b k p site e in
         let rs : region_list v.regions ≡ map (used_blocks names) (region_list became.made) =
-        ap (λ (z : PassedTree). region_list z.regions) became.is ∙ regions_used names became.made in
+        ap (λ (z : KitTree). region_list z.regions) became.is ∙ regions_used names became.made in
         let x = map_at (used_blocks names) (region_list became.made) r st.blocks
         (ap (λ l. slice_get l r) (sym rs) ∙ st.region_here) in
         let w = were t None Regions s.op.regions became.made became.becomes r x.0 x.1 in

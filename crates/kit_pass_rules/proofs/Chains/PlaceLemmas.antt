@@ -7,8 +7,10 @@ use Rattle.ir_program.specs.declared.handles.BasicBlock.{BasicBlock}
 use Rattle.ir_program.specs.declared.handles.Value.{Value}
 use Rattle.ir_trees.specs.Stands.{by_handle, in_program}
 use Rattle.ir_trees.specs.Trees.{Operations, Blocks, Regions, end, operation, block, region}
+use Rattle.kit.specs.Context.{KitTree}
 use Rattle.kit.specs.Meaning.{KitOperation, KitBlock}
 use Rattle.kit_checks.specs.Faults.{Keeps}
+use Rattle.kit_checks.specs.KitWorld.{kit_world}
 use Rattle.kit_checks.specs.Rules as rules
 use Rattle.kit_checks.specs.Sites.{Around, Site, operation_list, block_list, region_list}
 use Rattle.kit_checks.specs.Words.{is_terminator, is_symbol}
@@ -18,7 +20,6 @@ use Rattle.kit_ops.specs.declared.kinds.KitOp.{KitOp}
 use Rattle.kit_ops.specs.declared.kinds.KitOp.TheVariants as ops
 use Rattle.kit_ops.specs.declared.types.KitType.{KitType}
 use Rattle.kit_pass_rules.specs.Laws.{IsGood}
-use Rattle.kit_pass_rules.specs.Worlds.{PassedTree, kit_world}
 use Rattle.kit_pass_rules.proofs.Located.{located, located_block}
 use Rattle.kit_pass_rules.proofs.Walk.{SpotOf, OccurrenceOf, BlockOf, block_of, within, occurrence_of, Standing}
 use Rattle.kit_pass_rules.proofs.Walk.{child_of}
@@ -126,7 +127,7 @@ block_spot (block l ops rest) c (suc n) body e = let p = block_spot rest (next_b
 }
 
 operation_here : (xs : KitList Operations) (c : OccurrenceSite by_handle (in_program KitOperation KitBlock)) (k : ℕ)
-    (u : PassedTree) →
+    (u : KitTree) →
     slice_get (operation_list xs) k ≡ Some u → Has (occurrence_of c u) (occurrences_in xs c)
 operation_here end c k u e = absurd (none_some u e)
 operation_here (operation h rs rest) c zero u e = inl (ap (occurrence_of c)
@@ -135,11 +136,11 @@ operation_here (operation h rs rest) c (suc k) u e =
     inr (has-right (occurrence_of c u) (occurrences_in rs (inner h c)) (occurrences_in rest c)
     (operation_here rest c k u e))
 
-module _ (t : PassedTree) where
+module _ (t : KitTree) where
   -- a block of a region of an operation of the tree
   pub record BlockStep : Type 0 where
     pub s : KitSite
-    pub outer : List PassedTree
+    pub outer : List KitTree
     pub up : Standing t s outer
     pub r : ℕ
     pub b : ℕ
@@ -157,7 +158,7 @@ module _ (t : PassedTree) where
     pub region_is : spot.region ≡ x.up.spot.region + x.r
     pub first : x.b ≡ 0 → spot.first ≡ true
     pub here : Has (block_of spot x.body) (block_occurrences_of t)
-    pub operations : (k : ℕ) (u : PassedTree) → slice_get (operation_list x.body.operations) k ≡ Some u →
+    pub operations : (k : ℕ) (u : KitTree) → slice_get (operation_list x.body.operations) k ≡ Some u →
         Has (occurrence_of (within spot x.body) u) (occurrences_of t)
 
   pub block_stands : (x : BlockStep) → BlockStands x
@@ -197,7 +198,7 @@ module _ (t : PassedTree) where
   pub record Step : Type 0 where
     pub in_block : BlockStep
     pub k : ℕ
-    pub u : PassedTree
+    pub u : KitTree
     pub here : slice_get (operation_list in_block.body.operations) k ≡ Some u
 
   abbrev pub around_of : (x : BlockStep) → ℕ → KitAround
@@ -218,7 +219,7 @@ module _ (t : PassedTree) where
     pub step : BlockStep
     pub is : x ≡ block_of (block_stands step).spot step.body
 
-module _ (leads : TypeHandle → Option KitType) (old : Value → Option TypeHandle) (t : PassedTree)
+module _ (leads : TypeHandle → Option KitType) (old : Value → Option TypeHandle) (t : KitTree)
     (good : IsGood leads old t) where
   pub occurs_at : (o : KitOccurrence) → Has o (occurrences_of t) → OccursAt t o
   occurs_at o h =
@@ -285,7 +286,7 @@ module _ (leads : TypeHandle → Option KitType) (old : Value → Option TypeHan
   none_named [] x e h = h
   none_named (y ∷ xs) x e h = omega (arith, e)
 
-  branch_of : (u : PassedTree) (b : Ptr BasicBlock) (k : KitOp) → rules.FitsKind (kit_world leads old) u k →
+  branch_of : (u : KitTree) (b : Ptr BasicBlock) (k : KitOp) → rules.FitsKind (kit_world leads old) u k →
       Has b u.head.successors → IsBranchKind k
   branch_of u b ops.Br f h = plain
   branch_of u b ops.CondBr f h = conditional
@@ -315,7 +316,7 @@ module _ (leads : TypeHandle → Option KitType) (old : Value → Option TypeHan
     module_kind : IsHolder ops.Module
     function_kind : IsHolder ops.Func
 
-  holder_of : (u : PassedTree) (bs : KitList Blocks) (r : ℕ) (k : KitOp) → rules.FitsKind (kit_world leads old) u k →
+  holder_of : (u : KitTree) (bs : KitList Blocks) (r : ℕ) (k : KitOp) → rules.FitsKind (kit_world leads old) u k →
       slice_get (region_list u.regions) r ≡ Some bs → IsHolder k
   holder_of u bs r ops.Module f h = module_kind
   holder_of u bs r ops.Func f h = function_kind

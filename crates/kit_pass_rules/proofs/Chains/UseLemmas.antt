@@ -2,9 +2,9 @@
 use Rattle.std.proofs.Common.{◌≡◌, ℕ, zero, suc, List, [], ◌∷◌, ◌++◌, map, take, refl, sym, ap, ◌∙◌}
 use Rattle.ir_program.specs.declared.handles.Value.{Value}
 use Rattle.ir_trees.specs.Trees.{Operations, Blocks, Regions, end, operation, block, region}
+use Rattle.kit.specs.Context.{KitTree}
 use Rattle.kit_checks.specs.Sites.{operation_list, block_list, region_list}
 use Rattle.kit_checks.specs.Words.{values_of, joined, bodies_of}
-use Rattle.kit_pass_rules.specs.Worlds.{PassedTree}
 use Rattle.kit_pass_rules.proofs.Chains.InversionLemmas.{KitList, KitBody}
 use Rattle.kit_pass_rules.proofs.Chains.ListLemmas.{KitHead, heads, defined_by}
 use Rattle.opt_trees.specs.Simplify.{use_head, use_instead}
@@ -12,7 +12,7 @@ use Rattle.opt_trees.proofs.Lists.{map-append}
 
 module _ (f : Value → Value) where
   -- the operation, the block with other values
-  abbrev pub used : PassedTree → PassedTree
+  abbrev pub used : KitTree → KitTree
   used u = record { head = use_head f u.head; regions = use_instead f u.regions }
 
   abbrev pub used_body : KitBody → KitBody
@@ -33,7 +33,7 @@ module _ (f : Value → Value) where
   regions_used end = refl
   regions_used (region bs rest) = ap (λ l. use_instead f bs ∷ l) (regions_used rest)
 
-  pub heads_used : (us : List PassedTree) → heads (map used us) ≡ map (use_head f) (heads us)
+  pub heads_used : (us : List KitTree) → heads (map used us) ≡ map (use_head f) (heads us)
   heads_used [] = refl
   heads_used (u ∷ us) = ap (λ l. use_head f u.head ∷ l) (heads_used us)
 
@@ -55,5 +55,5 @@ module _ (f : Value → Value) where
       ∙ (ap (λ l. map used_body (block_list bs) ++ l) (bodies_step rs)
       ∙ sym (map-append used_body (block_list bs) (joined (map block_list rs))))
 
-  pub bodies_used : (u : PassedTree) → bodies_of (used u) ≡ map used_body (bodies_of u)
+  pub bodies_used : (u : KitTree) → bodies_of (used u) ≡ map used_body (bodies_of u)
   bodies_used u = ap (λ l. joined (map block_list l)) (regions_used u.regions) ∙ bodies_step (region_list u.regions)

@@ -11,14 +11,14 @@ use Rattle.ir_program.specs.declared.handles.Ptr.{Ptr}
 use Rattle.ir_program.specs.declared.handles.Value.{Value}
 use Rattle.ir_trees.specs.Stands.{StandsFor, defined_by}
 use Rattle.ir_trees.specs.Trees.{Defined}
+use Rattle.kit.specs.Context.{KitTree}
 use Rattle.kit.specs.Meaning.{KitOperation, KitBlock}
 use Rattle.kit_pass_rules.specs.ChainLaws.{DefinersApart}
-use Rattle.kit_pass_rules.specs.Worlds.{PassedTree}
 use Rattle.kit_pass_rules.proofs.Handles.{Told}
 use Rattle.kit_pass_rules.proofs.Lists.{map_at, index_of_has}
 use Rattle.opt_trees.specs.Occurrences.{Has}
 
-module _ (c : Program KitOperation KitBlock) (op : Ptr Operation) (told : Told c op) (t : PassedTree)
+module _ (c : Program KitOperation KitBlock) (op : Ptr Operation) (told : Told c op) (t : KitTree)
     (s : StandsFor c op t) where
   -- a value of an entity's list is defined by the entity
   definer_is : (e : DefiningEntity) (vs : List TypedValue) → values_at c e ≡ vs → (v : Value) →

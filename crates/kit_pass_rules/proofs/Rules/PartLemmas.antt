@@ -7,7 +7,9 @@ use Rattle.ir_base.specs.declared.types.TypeHandle.{TypeHandle}
 use Rattle.ir_program.specs.declared.handles.Value.{Value}
 use Rattle.ir_trees.specs.Searched.{Lists}
 use Rattle.ir_trees.specs.Trees.{Blocks, Regions}
+use Rattle.kit.specs.Context.{KitTree}
 use Rattle.kit.specs.Meaning.{kit}
+use Rattle.kit_checks.specs.KitWorld.{kit_world}
 use Rattle.kit_checks.specs.Rules as rules
 use Rattle.kit_checks.specs.Sites.{operation_list, block_list, region_list}
 use Rattle.kit_checks.specs.Words.{joined, bodies_of, members_of, entry_of, first_body, first_module, is_module}
@@ -17,7 +19,6 @@ use Rattle.kit_ops.specs.declared.kinds.KitOp.{KitOp}
 use Rattle.kit_ops.specs.declared.kinds.KitOp.TheVariants as ops
 use Rattle.kit_ops.specs.declared.types.KitType.{KitType}
 use Rattle.kit_pass_rules.specs.Laws.{IsGood}
-use Rattle.kit_pass_rules.specs.Worlds.{PassedTree, kit_world}
 use Rattle.kit_pass_rules.proofs.Lists.{map_get, map_at, has_at_index, index_of_has}
 use Rattle.kit_pass_rules.proofs.Walk.{stands_root, child_of}
 use Rattle.kit_pass_rules.specs.ChainLaws.{DefinersApart}
@@ -61,18 +62,18 @@ at_only : {X : Type 0} (k : ℕ) (x y : X) → slice_get (x ∷ []) k ≡ Some y
 at_only zero x y e = (refl, some_same x y e)
 at_only (suc k) x y e = absurd (none_some y e)
 
-module _ (leads : TypeHandle → Option KitType) (old : Value → Option TypeHandle) (t : PassedTree)
+module _ (leads : TypeHandle → Option KitType) (old : Value → Option TypeHandle) (t : KitTree)
     (good : IsGood leads old t)
     (definers : DefinersApart t) (names : Value → Value) (follows : (v : Value) →
     Follows kit (all_of t) t v (names v)) where
-  abbrev BecameHere : PassedTree → PassedTree → Type 0
+  abbrev BecameHere : KitTree → KitTree → Type 0
   BecameHere u v = Became leads old t good definers names follows u v
 
-  abbrev PlacedHere : PassedTree → Type 0
+  abbrev PlacedHere : KitTree → Type 0
   PlacedHere u = Placed leads old t good definers names follows u
 
   -- what an operation becomes whose regions become these
-  abbrev pub lit : PassedTree → KitList Regions → PassedTree
+  abbrev pub lit : KitTree → KitList Regions → KitTree
   lit u made = record { head = use_head names u.head; regions = use_instead names made }
 
   pub placed_root : PlacedHere t
@@ -84,7 +85,7 @@ module _ (leads : TypeHandle → Option KitType) (old : Value → Option TypeHan
       let c = child_of t b.s b.outer b.up b.r b.b x.k b.blocks b.body x.u b.region_here b.block_here x.here in
       record { s = site_of t x; outer = b.s.op ∷ b.outer; up = c.standing; is = refl }
 
-  module _ (u : PassedTree) (made : KitList Regions) (becomes : Becomes t None Regions u.regions made) where
+  module _ (u : KitTree) (made : KitList Regions) (becomes : Becomes t None Regions u.regions made) where
     pub regions_count : length (region_list (use_instead names made)) ≡ length (region_list u.regions)
     regions_count = ap length (regions_used names made) ∙ (length-map (used_blocks names) (region_list made)
         ∙ (are t None Regions u.regions made becomes).0)
@@ -139,7 +140,7 @@ module _ (leads : TypeHandle → Option KitType) (old : Value → Option TypeHan
 
     module _ (p : PlacedHere u) where
       abbrev regions_same : region_list p.s.op.regions ≡ region_list u.regions
-      regions_same = ap (λ (z : PassedTree). region_list z.regions) p.is
+      regions_same = ap (λ (z : KitTree). region_list z.regions) p.is
 
       -- no block of a function is empty
       pub block_filled : u.head.content.kind ≡ ops.Func → (c : KitBody) → Has c (bodies_of (lit u made)) →
@@ -148,7 +149,7 @@ module _ (leads : TypeHandle → Option KitType) (old : Value → Option TypeHan
           let x = block_was c h in
           let more = (chain_here leads old t good definers names follows p.s p.outer p.up x.r x.b x.bs x.cs
           (ap (λ l. slice_get l x.r) regions_same ∙ x.region_here) x.blocks_become x.it x.here).filled
-          (ap (λ (z : PassedTree). z.head.content.kind) p.is ∙ f) in
+          (ap (λ (z : KitTree). z.head.content.kind) p.is ∙ f) in
           let n : length (operation_list (use_instead names x.it.operations)) ≡ length
           (operation_list x.it.operations) =
           ap length (operations_used names x.it.operations) ∙ length-map (used names)
@@ -209,9 +210,9 @@ module _ (leads : TypeHandle → Option KitType) (old : Value → Option TypeHan
           }
 
       -- a member of a module
-      pub member_becomes : u.head.content.kind ≡ ops.Module → rules.HasModuleBody u → (f : PassedTree) →
+      pub member_becomes : u.head.content.kind ≡ ops.Module → rules.HasModuleBody u → (f : KitTree) →
           Lists (members_of u) f →
-          (g : PassedTree) × Lists (members_of (lit u made)) g × (g.head ≡ use_head names f.head)
+          (g : KitTree) × Lists (members_of (lit u made)) g × (g.head ≡ use_head names f.head)
       member_becomes m h f l =
           let x = in_one block_list (region_list u.regions) h.body h.one in
           let hr : slice_get (region_list u.regions) 0 ≡ Some x.0 = ap (λ l. slice_get l 0) x.1 in
@@ -231,11 +232,11 @@ module _ (leads : TypeHandle → Option KitType) (old : Value → Option TypeHan
           ap heads (operations_used names y.0.operations)
           ∙ (heads_used names (operation_list y.0.operations)
           ∙ ap (map (use_head names)) (module_chain leads old t good definers first 0 h.body he
-          (ap (λ (z : PassedTree). z.head.content.kind) p.is ∙ m) y.0.operations y.3)) in
-          let at = map_at (λ (z : PassedTree). z.head) (operation_list (use_instead names y.0.operations)) k.0
+          (ap (λ (z : KitTree). z.head.content.kind) p.is ∙ m) y.0.operations y.3)) in
+          let at = map_at (λ (z : KitTree). z.head) (operation_list (use_instead names y.0.operations)) k.0
           (use_head names f.head)
           (ap (λ l. slice_get l k.0) list ∙ map_get (use_head names) (hs h.body.operations) k.0 f.head
-          (map_get (λ (z : PassedTree). z.head) (operation_list h.body.operations) k.0 f k.1)) in
+          (map_get (λ (z : KitTree). z.head) (operation_list h.body.operations) k.0 f k.1)) in
           let made_here : slice_get (region_list (use_instead names made)) 0 ≡ Some (use_instead names a.0) =
           ap (λ l. slice_get l 0) (regions_used names made) ∙ map_get (used_blocks names) (region_list made) 0 a.0
           a.1 in
@@ -251,19 +252,19 @@ module _ (leads : TypeHandle → Option KitType) (old : Value → Option TypeHan
           (at.0, index_of_has (members_of (lit u made)) at.0 has, at.2)
 
   -- the first module around has become the first one afterwards
-  pub record ModuleBecame (s : PassedTree) (vs : List PassedTree) : Type 0 where
-    pub it : PassedTree
+  pub record ModuleBecame (s : KitTree) (vs : List KitTree) : Type 0 where
+    pub it : KitTree
     pub placed_at : PlacedHere s
     pub became : BecameHere s it
     pub kind : s.head.content.kind ≡ ops.Module
     pub nearest : first_module (kit_world leads old) vs ≡ Some it
 
-  pub module_became : (us vs : List PassedTree) → AllBecame leads old t good definers names follows us vs → (s : PassedTree) →
+  pub module_became : (us vs : List KitTree) → AllBecame leads old t good definers names follows us vs → (s : KitTree) →
       first_module (kit_world leads old) us ≡ Some s → ModuleBecame s vs
   module_became [] vs a s e = absurd (none_some s e)
   module_became (u ∷ us) [] a s e = absurd a
   module_became (u ∷ us) (v ∷ vs) a s e =
-      step (is_module u.head.content.kind) refl (ap (λ (z : PassedTree). is_module z.head.content.kind) a.1.is) e
+      step (is_module u.head.content.kind) refl (ap (λ (z : KitTree). is_module z.head.content.kind) a.1.is) e
       (module_became us vs a.2 s)
     where
       is_kind : (k : KitOp) → is_module k ≡ true → k ≡ ops.Module

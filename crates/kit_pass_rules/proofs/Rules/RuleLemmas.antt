@@ -9,8 +9,10 @@ use Rattle.ir_program.specs.declared.handles.BasicBlock.{BasicBlock}
 use Rattle.ir_program.specs.declared.handles.Value.{Value}
 use Rattle.ir_trees.specs.Searched.{Lists}
 use Rattle.ir_trees.specs.Trees.{Blocks, Regions}
+use Rattle.kit.specs.Context.{KitTree}
 use Rattle.kit.specs.Meaning.{kit}
 use Rattle.kit_checks.specs.Faults.{Keeps}
+use Rattle.kit_checks.specs.KitWorld.{kit_world}
 use Rattle.kit_checks.specs.Rules as rules
 use Rattle.kit_checks.specs.Sites.{operation_list, block_list, region_list}
 use Rattle.kit_checks.specs.Words.{Every, AreAllEqual, HaveTypes, IsValueType, types_of, members_of}
@@ -23,7 +25,7 @@ use Rattle.kit_ops.specs.declared.kinds.KitOp.{KitOp}
 use Rattle.kit_ops.specs.declared.kinds.KitOp.TheVariants as ops
 use Rattle.kit_ops.specs.declared.types.KitType.{KitType}
 use Rattle.kit_pass_rules.specs.Laws.{IsGood}
-use Rattle.kit_pass_rules.specs.Worlds.{PassedTree, kit_world, ObeysIn}
+use Rattle.kit_pass_rules.specs.Worlds.{ObeysIn}
 use Rattle.kit_pass_rules.proofs.Lists.{map_get, map_at, has_at_index, index_of_has, map_same}
 use Rattle.kit_pass_rules.specs.ChainLaws.{DefinersApart}
 use Rattle.kit_pass_rules.proofs.Chains.InversionLemmas.{KitList, KitBody, Becomes, are}
@@ -65,17 +67,17 @@ along_map f ops.Br sizes xs i = refl
 along_map f ops.CondBr sizes xs i = segment_map f xs sizes (suc i)
 along_map f k sizes xs i = refl
 
-module _ (leads : TypeHandle → Option KitType) (old : Value → Option TypeHandle) (t : PassedTree)
+module _ (leads : TypeHandle → Option KitType) (old : Value → Option TypeHandle) (t : KitTree)
     (good : IsGood leads old t)
     (definers : DefinersApart t) (names : Value → Value) (follows : (v : Value) → Follows kit (all_of t) t v (names v))
     (made : KitList Regions) (joins : Becomes t None Regions t.regions made) where
   abbrev CameHere : KitSite → Type 0
   CameHere s = Came leads old t good definers names follows made joins s
 
-  abbrev OldHere : Step t → PassedTree → KitAround → Type 0
+  abbrev OldHere : Step t → KitTree → KitAround → Type 0
   OldHere x v a = Old leads old t good definers names follows x v a
 
-  abbrev as_made : PassedTree → KitList Regions → PassedTree
+  abbrev as_made : KitTree → KitList Regions → KitTree
   as_made u qs = lit leads old t good definers names follows u qs
 
   -- values that are used have the types of those that were
@@ -87,11 +89,11 @@ module _ (leads : TypeHandle → Option KitType) (old : Value → Option TypeHan
       HaveTypes (kit_world leads old) (map names xs) hs
   have_types xs hs h = types_same xs ∙ h
 
-  owner_kind : (x : Step t) (v : PassedTree) (a : KitAround) → OldHere x v a → (k : KitOp) →
+  owner_kind : (x : Step t) (v : KitTree) (a : KitAround) → OldHere x v a → (k : KitOp) →
       a.owner.head.content.kind ≡ k → x.in_block.s.op.head.content.kind ≡ k
-  owner_kind x v a o k e = ap (λ (z : PassedTree). z.head.content.kind) (sym o.around.1.is) ∙ e
+  owner_kind x v a o k e = ap (λ (z : KitTree). z.head.content.kind) (sym o.around.1.is) ∙ e
 
-  in_kind : (x : Step t) (v : PassedTree) (a b : KitAround) → OldHere x v a → Some a ≡ Some b → (k : KitOp) →
+  in_kind : (x : Step t) (v : KitTree) (a b : KitAround) → OldHere x v a → Some a ≡ Some b → (k : KitOp) →
       b.owner.head.content.kind ≡ k → x.in_block.s.op.head.content.kind ≡ k
   in_kind x v a b o e k q = owner_kind x v a o k (ap (λ (z : KitAround). z.owner.head.content.kind) (some_same a b e)
       ∙ q)
@@ -102,7 +104,7 @@ module _ (leads : TypeHandle → Option KitType) (old : Value → Option TypeHan
   rule_root _ at_root = root_keeps leads old t good rule.RootIsModule
   rule_root _ (below x v a o) = λ e. absurd (none_some a (sym e))
 
-  fresh_name : (x : Step t) (v : PassedTree) (a : KitAround) (o : OldHere x v a) →
+  fresh_name : (x : Step t) (v : KitTree) (a : KitAround) (o : OldHere x v a) →
       x.in_block.s.op.head.content.kind ≡ ops.Module →
       rules.HasFreshName (kit_world leads old) a (as_made x.u o.became.made)
   fresh_name x v a o m k other name less here named own =
@@ -110,10 +112,10 @@ module _ (leads : TypeHandle → Option KitType) (old : Value → Option TypeHan
       let alone = o.alone m in
       let old_ops = operation_list x.in_block.body.operations in
       let at : slice_get (map (use_head names) (heads old_ops)) k ≡ Some other.head =
-      ap (λ l. slice_get l k) (sym alone.1) ∙ map_get (λ (z : PassedTree). z.head) (operation_list a.body.operations) k
+      ap (λ l. slice_get l k) (sym alone.1) ∙ map_get (λ (z : KitTree). z.head) (operation_list a.body.operations) k
       other here in
       let h = map_at (use_head names) (heads old_ops) k other.head at in
-      let z = map_at (λ (z : PassedTree). z.head) old_ops k h.0 h.1 in
+      let z = map_at (λ (z : KitTree). z.head) old_ops k h.0 h.1 in
       let same : z.0.head.content ≡ other.head.content = ap (λ (h : KitHead). h.content) z.2
       ∙ ap (λ (h : KitHead). h.content) h.2 in
       let name_was : symbol_name (kit_world leads old) z.0 ≡ Some name =
@@ -143,7 +145,7 @@ module _ (leads : TypeHandle → Option KitType) (old : Value → Option TypeHan
             (fresh_name x v a o (in_kind x v a b o h.0 ops.Module h.1));
       })
 
-  function_body : (u : PassedTree) (qs : KitList Regions) → Becomes t None Regions u.regions qs →
+  function_body : (u : KitTree) (qs : KitList Regions) → Becomes t None Regions u.regions qs →
       Placed leads old t good definers names follows u →
       rules.HasFunctionBody (kit_world leads old) u → rules.HasFunctionBody (kit_world leads old) (as_made u qs)
   function_body u qs b p h =
@@ -183,7 +185,7 @@ module _ (leads : TypeHandle → Option KitType) (old : Value → Option TypeHan
 
   -- ---- values, ends of blocks, what is visible
 
-  argument_values : (u : PassedTree) (qs : KitList Regions) → Becomes t None Regions u.regions qs →
+  argument_values : (u : KitTree) (qs : KitList Regions) → Becomes t None Regions u.regions qs →
       (P : KitBody → Type 0) →
       ((b c : KitBody) → b.label ≡ c.label → P b → P c) → Every P (bodies_of u) → Every P (bodies_of (as_made u qs))
   argument_values u qs b P moves h k c e =
@@ -192,7 +194,7 @@ module _ (leads : TypeHandle → Option KitType) (old : Value → Option TypeHan
       let i = index_of_has (bodies_of u) w.0 w.1 in
       moves w.0 c w.2 (h i.0 w.0 i.1)
 
-  values_kept : (u : PassedTree) (qs : KitList Regions) → Becomes t None Regions u.regions qs →
+  values_kept : (u : KitTree) (qs : KitList Regions) → Becomes t None Regions u.regions qs →
       (s : Option KitAround) (r : Option KitAround) →
       rules.ValuesAreIntegers (kit_world leads old) (record { op = u; around = s }) →
       rules.ValuesAreIntegers (kit_world leads old) (record { op = as_made u qs; around = r })
@@ -210,7 +212,7 @@ module _ (leads : TypeHandle → Option KitType) (old : Value → Option TypeHan
       (values_kept x.u o.became.made o.became.becomes (Some (around_of t x.in_block x.k)) (Some a)
       (keeps leads old t good x rule.ValuesAreIntegers))
 
-  filled : (u : PassedTree) (qs : KitList Regions) → Becomes t None Regions u.regions qs →
+  filled : (u : KitTree) (qs : KitList Regions) → Becomes t None Regions u.regions qs →
       Placed leads old t good definers names follows u →
       u.head.content.kind ≡ ops.Func → Every (λ (c : KitBody). operation_list c.operations ≢ [])
       (bodies_of (as_made u qs))
@@ -258,7 +260,7 @@ module _ (leads : TypeHandle → Option KitType) (old : Value → Option TypeHan
 
   -- ---- types
 
-  kind_types : (u : PassedTree) (qs : KitList Regions) (k : KitOp) → rules.HasKindTypes (kit_world leads old) u k →
+  kind_types : (u : KitTree) (qs : KitList Regions) (k : KitOp) → rules.HasKindTypes (kit_world leads old) u k →
       rules.HasKindTypes (kit_world leads old) (as_made u qs) k
   kind_types u qs (ops.Arithmetic x) h = subst AreAllEqual (sym
       (ap (λ l. l ++ map Some (types_of u.head.results)) (types_same u.head.operands))) h
@@ -277,7 +279,7 @@ module _ (leads : TypeHandle → Option KitType) (old : Value → Option TypeHan
 
   -- ---- edges, calls, returns
 
-  leads_there : (x : Step t) (v : PassedTree) (a : KitAround) (o : OldHere x v a) (edge : ℕ) (target : Ptr BasicBlock) →
+  leads_there : (x : Step t) (v : KitTree) (a : KitAround) (o : OldHere x v a) (edge : ℕ) (target : Ptr BasicBlock) →
       slice_get x.u.head.successors edge ≡ Some target →
       rules.EdgeLeadsTo (kit_world leads old) x.u (around_of t x.in_block x.k) edge target →
       rules.EdgeLeadsTo (kit_world leads old) (as_made x.u o.became.made) a edge target
@@ -320,7 +322,7 @@ module _ (leads : TypeHandle → Option KitType) (old : Value → Option TypeHan
             (sym (some_same (around_of t x.in_block x.k) f.0 f.1)) f.2),
       ))
 
-  calls : (x : Step t) (v : PassedTree) (a : KitAround) (o : OldHere x v a) →
+  calls : (x : Step t) (v : KitTree) (a : KitAround) (o : OldHere x v a) →
       rules.CallsFunction (kit_world leads old) x.u (around_of t x.in_block x.k) →
       rules.CallsFunction (kit_world leads old) (as_made x.u o.became.made) a
   calls x v a o h =
@@ -329,7 +331,7 @@ module _ (leads : TypeHandle → Option KitType) (old : Value → Option TypeHan
       let holds : rules.ModuleHolds (kit_world leads old) m.placed_at.s =
       good.obeys rule.ModuleHolds (m.placed_at.up.prefix ++ []) m.placed_at.s (m.placed_at.up.reaches []) in
       let body : rules.HasModuleBody h.scope = subst rules.HasModuleBody m.placed_at.is
-      (holds.body (ap (λ (z : PassedTree). z.head.content.kind) m.placed_at.is ∙ m.kind)) in
+      (holds.body (ap (λ (z : KitTree). z.head.content.kind) m.placed_at.is ∙ m.kind)) in
       let f = member_becomes leads old t good definers names follows h.scope m.became.made m.became.becomes m.placed_at
       m.kind body h.function h.member in
       let content : f.0.head.content ≡ h.function.head.content = ap (λ (z : KitHead). z.content) f.2 in
@@ -383,7 +385,7 @@ module _ (leads : TypeHandle → Option KitType) (old : Value → Option TypeHan
 
   -- ---- attributes and formats
 
-  constant_kept : (u : PassedTree) (qs : KitList Regions) → rules.HasConstantValue (kit_world leads old) u →
+  constant_kept : (u : KitTree) (qs : KitList Regions) → rules.HasConstantValue (kit_world leads old) u →
       rules.HasConstantValue (kit_world leads old) (as_made u qs)
   constant_kept u qs h = record {
     value = h.value;
@@ -403,7 +405,7 @@ module _ (leads : TypeHandle → Option KitType) (old : Value → Option TypeHan
       subst (λ z. rules.ConstantsFit (kit_world leads old) (record { op = z; around = Some a })) (sym o.became.is)
       (λ e. constant_kept x.u o.became.made (r e))
 
-  attributes_kept : (u : PassedTree) (qs : KitList Regions) → Becomes t None Regions u.regions qs →
+  attributes_kept : (u : KitTree) (qs : KitList Regions) → Becomes t None Regions u.regions qs →
       (s : Option KitAround) (r : Option KitAround) →
       rules.AttributesAreKnown (kit_world leads old) (record { op = u; around = s }) →
       rules.AttributesAreKnown (kit_world leads old) (record { op = as_made u qs; around = r })
@@ -422,7 +424,7 @@ module _ (leads : TypeHandle → Option KitType) (old : Value → Option TypeHan
       (attributes_kept x.u o.became.made o.became.becomes (Some (around_of t x.in_block x.k)) (Some a)
       (keeps leads old t good x rule.AttributesAreKnown))
 
-  module _ (u : PassedTree) (qs : KitList Regions) (b : Becomes t None Regions u.regions qs) where
+  module _ (u : KitTree) (qs : KitList Regions) (b : Becomes t None Regions u.regions qs) where
     counts : (r s n : ℕ) → rules.Counts u r s n → rules.Counts (as_made u qs) r s n
     counts r s n h = record {
       results = h.results;

@@ -8,7 +8,9 @@ use Rattle.ir_program.specs.declared.handles.Ptr.{Ptr}
 use Rattle.ir_program.specs.declared.handles.BasicBlock.{BasicBlock}
 use Rattle.ir_program.specs.declared.handles.Value.{Value}
 use Rattle.ir_trees.specs.Trees.{Defined}
+use Rattle.kit.specs.Context.{KitTree}
 use Rattle.kit_checks.specs.Faults.{Keeps}
+use Rattle.kit_checks.specs.KitWorld.{HasDeclaredTypes, kit_world}
 use Rattle.kit_checks.specs.Rules as rules
 use Rattle.kit_checks.specs.Sites.{operation_list, site_from, site_at}
 use Rattle.kit_checks.specs.Words.{Every, AreAllEqual, types_of, values_of, results_of, values_before}
@@ -20,7 +22,7 @@ use Rattle.kit_checks.proofs.Down.{step_to, stepped}
 use Rattle.kit_ops.specs.declared.kinds.KitOp.{KitOp}
 use Rattle.kit_ops.specs.declared.kinds.KitOp.TheVariants as ops
 use Rattle.kit_ops.specs.declared.types.KitType.{KitType}
-use Rattle.kit_pass_rules.specs.Worlds.{PassedTree, kit_world, IsTypedIn, ObeysIn}
+use Rattle.kit_pass_rules.specs.Worlds.{ObeysIn}
 use Rattle.kit_pass_rules.proofs.Lists.{map_at, has_at_index, index_of_has, map_same}
 use Rattle.kit_pass_rules.proofs.Walk.{block_of, within, occurrence_of, Standing, stands_root, child_of}
 use Rattle.kit_pass_rules.proofs.Chains.ChainLemmas.{in_cond}
@@ -33,13 +35,13 @@ use Rattle.opt_trees.specs.Occurrences.{Has}
 use Rattle.opt_trees.proofs.Lists.{some_same, none_some}
 use Rattle.opt_trees.proofs.NoneDead.{has-append}
 
-module _ (t : PassedTree) where
+module _ (t : KitTree) where
   -- the root, or an operation of a block
   pub data IsPlace : KitSite → Type 0 where
     the_root : IsPlace (record { op = t; around = None })
     a_step : (x : Step t) → IsPlace (site_of t x)
 
-  walk : (s : KitSite) (outer : List PassedTree) → Standing t s outer → IsPlace s → (p : List ℕ) (site : KitSite) →
+  walk : (s : KitSite) (outer : List KitTree) → Standing t s outer → IsPlace s → (p : List ℕ) (site : KitSite) →
       site_from s outer p ≡ Some site → IsPlace site
   walk s outer up here [] site e = subst IsPlace (some_same s site e) here
   walk s outer up here (r ∷ []) site e = absurd (none_some site e)
@@ -68,9 +70,9 @@ module _ (t : PassedTree) where
   pub place_of : (p : List ℕ) (site : KitSite) → site_at t p ≡ Some site → IsPlace site
   place_of p site e = walk (record { op = t; around = None }) [] (stands_root t) the_root p site e
 
-module _ (leads : TypeHandle → Option KitType) (old new : Value → Option TypeHandle) (t : PassedTree)
-    (typed_old : IsTypedIn old t)
-    (typed_new : IsTypedIn new t) where
+module _ (leads : TypeHandle → Option KitType) (old new : Value → Option TypeHandle) (t : KitTree)
+    (typed_old : HasDeclaredTypes old t)
+    (typed_new : HasDeclaredTypes new t) where
   -- what is defined has one type
   argument_same : (x : BlockStep t) (v : Value) → Has v (values_of x.body.label.arguments) → new v ≡ old v
   argument_same x v h =
@@ -177,7 +179,7 @@ module _ (leads : TypeHandle → Option KitType) (old new : Value → Option Typ
             (λ v i. has_along v s.op.head.content.kind sizes s.op.head.operands edge i) same ∙ h.operands is;
       }
 
-      nearest_same : (us : List PassedTree) → first_module (kit_world leads new) us ≡ first_module (kit_world leads old) us
+      nearest_same : (us : List KitTree) → first_module (kit_world leads new) us ≡ first_module (kit_world leads old) us
       nearest_same [] = refl
       nearest_same (u ∷ us) = ap (λ o. cond (is_module u.head.content.kind) (Some u) o) (nearest_same us)
 

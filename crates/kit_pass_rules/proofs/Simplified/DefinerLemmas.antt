@@ -8,9 +8,9 @@ use Rattle.ir_program.specs.declared.handles.Value.{Value}
 use Rattle.ir_trees.specs.Renames.{names_of}
 use Rattle.ir_trees.specs.Stands.{by_handle, in_program}
 use Rattle.ir_trees.specs.Trees.{Sort, Regions, end, operation, block, region}
+use Rattle.kit.specs.Context.{KitTree}
 use Rattle.kit.specs.Meaning.{KitOperation, KitBlock, kit}
 use Rattle.kit_ops.specs.declared.attributes.IntegerAttr.{IntegerAttr}
-use Rattle.kit_pass_rules.specs.Worlds.{PassedTree}
 use Rattle.kit_pass_rules.specs.ChainLaws.{DefinersApart}
 use Rattle.kit_pass_rules.proofs.Chains.InversionLemmas.{KitList}
 use Rattle.kit_pass_rules.proofs.Chains.ListLemmas.{KitHead}
@@ -136,7 +136,7 @@ module _ (v : Value) where
       (λ b. argument_of rest (next_region c) o b g) h
 
 -- a tree whose definitions are some of those of another
-pub fewer_definers : (t u : PassedTree) → ((v : Value) → Has v (results_in u.regions) → Has v (results_in t.regions)) →
+pub fewer_definers : (t u : KitTree) → ((v : Value) → Has v (results_in u.regions) → Has v (results_in t.regions)) →
     ((v : Value) → Has v (arguments_in u.regions) → Has v (arguments_in t.regions)) → DefinersApart t → DefinersApart u
 fewer_definers t u results arguments apart x o v hx ho a g =
     let y = argument_at v t.regions (at_root t) (arguments v (argument_of v u.regions (at_root u) x hx a)) in
@@ -173,7 +173,7 @@ module _ (w : TreeSurroundings by_handle IntegerAttr) where
       (arguments_decided xs i ++ arguments_decided rest i)
   arguments_decided (region bs rest) = λ i. arguments_decided bs i ++ arguments_decided rest i
 
-  pub decided_definers : (t : PassedTree) → DefinersApart t → DefinersApart (decided kit w t)
+  pub decided_definers : (t : KitTree) → DefinersApart t → DefinersApart (decided kit w t)
   decided_definers t = fewer_definers t (decided kit w t) (λ v h. subst (Has v) (results_decided t.regions) h)
       (λ v h. subst (Has v) (arguments_decided t.regions) h)
 
@@ -221,7 +221,7 @@ module _ (g : Ptr BasicBlock → Bool) (v : Value) where
   arguments_kept (region bs rest) h = either_kept v (arguments_in (keep g bs)) (arguments_in (keep g rest))
       (arguments_in bs) (arguments_in rest) (arguments_kept bs) (arguments_kept rest) h
 
-pub kept_definers : (g : Ptr BasicBlock → Bool) (t : PassedTree) → DefinersApart t →
+pub kept_definers : (g : Ptr BasicBlock → Bool) (t : KitTree) → DefinersApart t →
     DefinersApart (record { head = t.head; regions = keep g t.regions })
 kept_definers g t = fewer_definers t (record { head = t.head; regions = keep g t.regions })
     (λ v h. results_kept g v t.regions h) (λ v h. arguments_kept g v t.regions h)

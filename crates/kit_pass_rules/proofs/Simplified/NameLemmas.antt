@@ -10,6 +10,7 @@ use Rattle.ir_program.specs.declared.handles.Value.{Value}
 use Rattle.ir_trees.specs.Searched.{Lists, heads_in, operation_names}
 use Rattle.ir_trees.specs.Stands.{by_handle}
 use Rattle.ir_trees.specs.Trees.{Sort, Regions, end, operation, block, region}
+use Rattle.kit.specs.Context.{KitTree}
 use Rattle.kit.specs.Meaning.{KitOperation, kit}
 use Rattle.kit_pass_rules.proofs.Apart.OccurrenceLemmas.{each_operation}
 use Rattle.kit_pass_rules.proofs.Chains.InversionLemmas.{KitList, Becomes}
@@ -19,7 +20,6 @@ use Rattle.kit_pass_rules.proofs.Simplified.DefinerLemmas.{InsideKit, both_of, t
 use Rattle.kit_ops.specs.declared.attributes.IntegerAttr.{IntegerAttr}
 use Rattle.kit_ops.specs.declared.types.KitType.{KitType}
 use Rattle.kit_pass_rules.specs.Laws.{IsGood}
-use Rattle.kit_pass_rules.specs.Worlds.{PassedTree}
 use Rattle.kit_pass_rules.proofs.Lists.{has_at_index, index_of_has}
 use Rattle.opt_trees.specs.Dce.{TreeSurroundings}
 use Rattle.opt_trees.specs.Occurrences.{Has, inner, next_block, next_region, occurrences_in, at_root}
@@ -125,10 +125,10 @@ module _ (w : TreeSurroundings by_handle IntegerAttr) where
 -- ---- each phase
 
 -- each handle of an operation of the second tree is one of the first
-abbrev pub NamesStay : PassedTree → PassedTree → Type 0
+abbrev pub NamesStay : KitTree → KitTree → Type 0
 NamesStay t u = (n : Ptr Operation) → Lists (operation_names u) n → Lists (operation_names t) n
 
-listed : (t u : PassedTree) → t.head.name ≡ u.head.name →
+listed : (t u : KitTree) → t.head.name ≡ u.head.name →
     ((n : Ptr Operation) → Has n (names_in u.regions) → Has n (names_in t.regions)) → NamesStay t u
 listed t u e f n l =
     let h : Has n (u.head.name ∷ names_in u.regions) =
@@ -136,19 +136,19 @@ listed t u e f n l =
     let g : Has n (t.head.name ∷ names_in t.regions) = ⊎_elim (λ a. inl (a ∙ sym e)) (λ b. inr (f n b)) h in
     index_of_has (operation_names t) n (subst (λ z. Has n (t.head.name ∷ z)) (sym (names_are t.regions)) g)
 
-pub decided_names : (w : TreeSurroundings by_handle IntegerAttr) (t : PassedTree) → NamesStay t (decided kit w t)
+pub decided_names : (w : TreeSurroundings by_handle IntegerAttr) (t : KitTree) → NamesStay t (decided kit w t)
 decided_names w t = listed t (decided kit w t) refl (λ n h. subst (Has n) (names_decided w t.regions) h)
 
-pub cut_names : (t after : PassedTree) → IsCut kit (all_of t) t after → NamesStay t after
+pub cut_names : (t after : KitTree) → IsCut kit (all_of t) t after → NamesStay t after
 cut_names t after c = subst (NamesStay t) (sym c.is)
     (listed t (record { head = t.head; regions = keep c.gone t.regions }) refl (λ n h. name_kept n c.gone t.regions h))
 
-module _ (leads : TypeHandle → Option KitType) (typed : Value → Option TypeHandle) (t : PassedTree)
+module _ (leads : TypeHandle → Option KitType) (typed : Value → Option TypeHandle) (t : KitTree)
     (good : IsGood leads typed t) where
   made_names : (names : Value → Value) (made : KitList Regions) → Becomes t None Regions t.regions made →
       NamesStay t (record { head = use_head names t.head; regions = use_instead names made })
   made_names names made joins =
-      let after : PassedTree = record { head = use_head names t.head; regions = use_instead names made } in
+      let after : KitTree = record { head = use_head names t.head; regions = use_instead names made } in
       listed t after refl (λ n h.
       let o = name_at n (use_instead names made) (at_root after) h in
       let w = each_operation kit (all_of t) t (orderly leads typed t good) (is_local leads typed t good)
@@ -156,5 +156,5 @@ module _ (leads : TypeHandle → Option KitType) (typed : Value → Option TypeH
       o.0 o.1 in
       name_of n t.regions (at_root t) w.it w.stands (o.2 ∙ ap (λ (h : KitHead). h.name) w.head))
 
-  pub joined_names : (after : PassedTree) → IsJoined kit (all_of t) t after → NamesStay t after
+  pub joined_names : (after : KitTree) → IsJoined kit (all_of t) t after → NamesStay t after
   joined_names after j = subst (NamesStay t) (sym j.is) (made_names j.names j.regions j.joins)

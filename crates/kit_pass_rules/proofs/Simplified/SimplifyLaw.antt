@@ -4,6 +4,7 @@ use Rattle.std.proofs.Common.{Option, refl, sym, ap, subst}
 use Rattle.ir_base.specs.declared.types.TypeHandle.{TypeHandle}
 use Rattle.ir_program.specs.declared.handles.Value.{Value}
 use Rattle.ir_trees.specs.Stands.{by_handle}
+use Rattle.kit.specs.Context.{KitTree}
 use Rattle.kit.specs.Meaning.{kit}
 use Rattle.kit_pass_rules.specs.ChainLaws.{DefinersApart, SimplifiedKeepsRules, SimplifiedStaysGood}
 use Rattle.kit_pass_rules.proofs.Apart.JoinedLaw.{joined_stays_good}
@@ -13,15 +14,14 @@ use Rattle.kit_pass_rules.specs.CutLaws.{DecidedInPlaceStaysGood, CutStaysGood, 
 use Rattle.kit_ops.specs.declared.attributes.IntegerAttr.{IntegerAttr}
 use Rattle.kit_ops.specs.declared.types.KitType.{KitType}
 use Rattle.kit_pass_rules.specs.Laws.{IsGood}
-use Rattle.kit_pass_rules.specs.Worlds.{PassedTree}
 use Rattle.opt_trees.specs.Dce.{TreeSurroundings}
 use Rattle.opt_trees.specs.Simplify.{all_of, decided, IsJoined, IsSimplify}
 
 -- the three phases in turn
 module _ (decided_good : DecidedInPlaceStaysGood) (cut_good : CutStaysGood) (w : TreeSurroundings by_handle IntegerAttr)
-    (leads : TypeHandle → Option KitType) (old : Value → Option TypeHandle) (t made : PassedTree)
+    (leads : TypeHandle → Option KitType) (old : Value → Option TypeHandle) (t made : KitTree)
     (good : IsGood leads old t) (definers : DefinersApart t) (is : IsSimplify kit w t made) where
-  abbrev branches : PassedTree
+  abbrev branches : KitTree
   branches = decided kit w t
 
   good_decided : IsGood leads old branches
@@ -35,7 +35,7 @@ module _ (decided_good : DecidedInPlaceStaysGood) (cut_good : CutStaysGood) (w :
       (kept_definers is.is_cut.gone branches (decided_definers w t definers))
 
   joined : IsJoined kit (all_of is.cut) is.cut made
-  joined = subst (λ p. IsJoined kit p is.cut made) (ap (λ (z : PassedTree). all_of z) (sym is.is_cut.is)) is.is_joined
+  joined = subst (λ p. IsJoined kit p is.cut made) (ap (λ (z : KitTree). all_of z) (sym is.is_cut.is)) is.is_joined
 
   good_joined : IsGood leads old made
   good_joined = joined_stays_good leads old is.cut made good_cut definers_cut joined

@@ -3,10 +3,12 @@ use Rattle.std.proofs.Common.{◌≡◌, Option, slice_get, sym, ap, ◌∙◌, 
 use Rattle.ir_base.specs.declared.types.TypeHandle.{TypeHandle}
 use Rattle.ir_program.specs.declared.handles.Value.{Value}
 use Rattle.ir_trees.specs.Renames.{names_of}
+use Rattle.kit.specs.Context.{KitTree}
 use Rattle.kit.specs.Meaning.{KitOperation, KitBlock}
+use Rattle.kit_checks.specs.KitWorld.{HasDeclaredTypes, kit_world}
 use Rattle.kit_ops.specs.declared.types.KitType.{KitType}
 use Rattle.kit_pass_rules.specs.Laws.{IsGood}
-use Rattle.kit_pass_rules.specs.Worlds.{PassedTree, kit_world, HandlesAreApart, IsTypedIn, ObeysIn}
+use Rattle.kit_pass_rules.specs.Worlds.{HandlesAreApart, ObeysIn}
 use Rattle.kit_pass_rules.proofs.Walk.{OccurrenceOf, BlockOf}
 use Rattle.kit_pass_rules.proofs.pruning.PrunedTrees.{Pruning, prune_tree}
 use Rattle.kit_pass_rules.proofs.pruning.PrunedSites.{MayPrune}
@@ -16,7 +18,7 @@ use Rattle.opt_trees.proofs.Lists.{Preimage}
 
 -- each operation and block of the second tree is made of one of the first: different operations get different names,
 -- results and what a block says of itself stay
-pub record Carries (t u : PassedTree) : Type 0 where
+pub record Carries (t u : KitTree) : Type 0 where
   pub made : OccurrenceOf KitOperation KitBlock → OccurrenceOf KitOperation KitBlock
   pub block_made : BlockOf KitOperation KitBlock → BlockOf KitOperation KitBlock
   pub operations : (p : OccurrenceOf KitOperation KitBlock) → Has p (occurrences_of u) →
@@ -28,7 +30,7 @@ pub record Carries (t u : PassedTree) : Type 0 where
   pub results : (o : OccurrenceOf KitOperation KitBlock) → (made o).head.results ≡ o.head.results
   pub labels : (x : BlockOf KitOperation KitBlock) → (block_made x).label ≡ x.label
 
-module _ (t u : PassedTree) (c : Carries t u) where
+module _ (t u : KitTree) (c : Carries t u) where
   same_label : (x y : BlockOf KitOperation KitBlock) → c.block_made x ≡ y → x.label ≡ y.label
   same_label x y e = sym (c.labels x) ∙ ap (λ (z : BlockOf KitOperation KitBlock). z.label) e
 
@@ -56,7 +58,7 @@ module _ (t u : PassedTree) (c : Carries t u) where
         (sym a.is ∙ (ap c.block_made e.0 ∙ b.is), e.1);
   }
 
-  pub carried_typed : (typed : Value → Option TypeHandle) → IsTypedIn typed t → IsTypedIn typed u
+  pub carried_typed : (typed : Value → Option TypeHandle) → HasDeclaredTypes typed t → HasDeclaredTypes typed u
   carried_typed typed was = record {
     results = λ o h d i.
         let a = c.operations o h in
@@ -69,17 +71,17 @@ module _ (t u : PassedTree) (c : Carries t u) where
   }
 
 -- so what is pruned is good where it is made so, and keeps the rules where values have the types that it says
-module _ (leads : TypeHandle → Option KitType) (g : Pruning) (t : PassedTree) (may : MayPrune g t) (after : PassedTree)
+module _ (leads : TypeHandle → Option KitType) (g : Pruning) (t : KitTree) (may : MayPrune g t) (after : KitTree)
     (is : after ≡ prune_tree g t) where
-  pub keeps_from : (old new : Value → Option TypeHandle) → IsGood leads old t → IsTypedIn new after →
+  pub keeps_from : (old new : Value → Option TypeHandle) → IsGood leads old t → HasDeclaredTypes new after →
       ObeysIn (kit_world leads new) after
   keeps_from old new good typed = subst (ObeysIn (kit_world leads new)) (sym is)
-      (pruned_keeps leads old new g t good may (subst (IsTypedIn new) is typed))
+      (pruned_keeps leads old new g t good may (subst (HasDeclaredTypes new) is typed))
 
   pub good_from : (typed : Value → Option TypeHandle) → IsGood leads typed t → Carries t after →
       IsGood leads typed after
   good_from typed good carries =
-      let now : IsTypedIn typed after = carried_typed t after carries typed good.typed_in in
+      let now : HasDeclaredTypes typed after = carried_typed t after carries typed good.typed_in in
       record {
         obeys = keeps_from typed typed good now;
         typed_in = now;

@@ -7,11 +7,11 @@ use Rattle.ir_program.specs.declared.handles.Operation.{Operation}
 use Rattle.ir_program.specs.declared.handles.Ptr.{Ptr}
 use Rattle.ir_program.specs.declared.handles.Value.{Value}
 use Rattle.ir_trees.specs.Trees.{Sort, end, operation, block, region}
+use Rattle.kit.specs.Context.{KitTree}
 use Rattle.kit.specs.Meaning.{kit, is_module}
 use Rattle.kit_ops.specs.declared.kinds.KitOp.TheVariants as ops
 use Rattle.kit_ops.specs.declared.types.KitType.{KitType}
 use Rattle.kit_pass_rules.specs.Laws.{IsGood, CutKeepsRules}
-use Rattle.kit_pass_rules.specs.Worlds.{PassedTree}
 use Rattle.kit_pass_rules.proofs.DceVisible.{if_not}
 use Rattle.kit_pass_rules.proofs.Thin.{KitBody}
 use Rattle.kit_pass_rules.proofs.Walk.{block_of, within, occurrence_of}
@@ -35,7 +35,7 @@ module _ (gone : Ptr BasicBlock → Bool) where
   tree_is (block l os rest) = λ i. if gone l.name then tree_is rest i else block l (tree_is os i) (tree_is rest i)
   tree_is (region bs rest) = λ i. region (tree_is bs i) (tree_is rest i)
 
-module _ (leads : TypeHandle → Option KitType) (typed : Value → Option TypeHandle) (t after : PassedTree)
+module _ (leads : TypeHandle → Option KitType) (typed : Value → Option TypeHandle) (t after : KitTree)
     (good : IsGood leads typed t) (cut : IsCut kit (all_of t) t after) where
   -- all regions of an operation are visited where one is
   visited_any : (a : Ptr Operation) (i j : ℕ) → IsVisited kit (all_of t) t a i → IsVisited kit (all_of t) t a j
@@ -54,7 +54,7 @@ module _ (leads : TypeHandle → Option KitType) (typed : Value → Option TypeH
       subst (λ (y : KitBlockOf). not (is_module y.spot.owner.content.kind) ≡ true) same z.visited.ssa in
       true_false (not (is_module x.spot.owner.content.kind)) ssa (ap (λ k. not (is_module k)) m))
 
-  targets : (c e : KitSpot) (body target : KitBody) (u : PassedTree) → Has (block_of c body) (block_occurrences_of t) →
+  targets : (c e : KitSpot) (body target : KitBody) (u : KitTree) → Has (block_of c body) (block_occurrences_of t) →
       Has (occurrence_of (within c body) u) (occurrences_of t) → Has (block_of e target) (block_occurrences_of t) →
       e.owner ≡ c.owner →
       cut.gone body.label.name ≡ false → Has target.label.name u.head.successors → cut.gone target.label.name ≡ false

@@ -10,6 +10,7 @@ use Rattle.ir_trees.specs.Renames.{KeepsApart, rename_head, rename, rename_root}
 use Rattle.ir_trees.specs.Searched.{operation_names}
 use Rattle.ir_trees.specs.Stands.{by_handle}
 use Rattle.ir_trees.specs.Trees.{Sort, Regions, end, operation, block, region}
+use Rattle.kit.specs.Context.{KitTree}
 use Rattle.kit.specs.Meaning.{KitOperation, KitBlock, kit, operation_of, edge_of, picked_by, condition, is_br}
 use Rattle.kit_ops.specs.declared.attributes.IntegerAttr.{IntegerAttr}
 use Rattle.kit_ops.specs.declared.kinds.KitOp.{KitOp}
@@ -17,7 +18,6 @@ use Rattle.kit_ops.specs.declared.kinds.KitOp.TheVariants as ops
 use Rattle.kit_ops.specs.declared.types.KitType.{KitType}
 use Rattle.kit_pass_rules.specs.Laws.{IsGood, DecidedKeepsRules}
 use Rattle.kit_pass_rules.specs.Names.{maps_of}
-use Rattle.kit_pass_rules.specs.Worlds.{PassedTree}
 use Rattle.kit_pass_rules.proofs.Walk.{OccurrenceOf, BlockOf}
 use Rattle.kit_pass_rules.specs.CutLaws.{DecidedInPlaceStaysGood, DecidedStaysGood}
 use Rattle.kit_pass_rules.proofs.phases.CarriedTrees.{Carries, keeps_from, good_from}
@@ -69,7 +69,7 @@ module _ (alone : Value → Option IntegerAttr) (names : Ptr Operation → Ptr O
   abbrev decisions : Pruning
   decisions = record { names = names; taken = decision; gone = λ b. false }
 
-  may_decide : (t : PassedTree) → MayPrune decisions t
+  may_decide : (t : KitTree) → MayPrune decisions t
   may_decide t = record {
     conditional = λ h rs i e. decided_kind h.content.kind (is_bare kit h rs) (map alone h.operands) i e;
     one_of_two = λ h rs i e. decided_below h.content.kind (is_bare kit h rs) (map alone h.operands) i e;
@@ -100,7 +100,7 @@ module _ (alone : Value → Option IntegerAttr) (names : Ptr Operation → Ptr O
   tree_is (block l os rest) = λ i. block (label_renamed names l i) (tree_is os i) (tree_is rest i)
   tree_is (region bs rest) = λ i. region (tree_is bs i) (tree_is rest i)
 
-  root_is : (t : PassedTree) → decision t.head t.regions ≡ None →
+  root_is : (t : KitTree) → decision t.head t.regions ≡ None →
       rename_root (maps_of names) (record { head = t.head; regions = decide kit alone t.regions })
       ≡ prune_tree decisions t
   root_is t none = λ i. record { head = root_head i; regions = tree_is t.regions i }
@@ -108,7 +108,7 @@ module _ (alone : Value → Option IntegerAttr) (names : Ptr Operation → Ptr O
       root_head : rename_head (maps_of names) t.head ≡ head_by (names t.head.name) (decision t.head t.regions) t.head
       root_head = head_renamed names t.head ∙ ap (λ q. head_by (names t.head.name) q t.head) (sym none)
 
-module _ (w : TreeSurroundings by_handle IntegerAttr) (names : Ptr Operation → Ptr Operation) (t : PassedTree) where
+module _ (w : TreeSurroundings by_handle IntegerAttr) (names : Ptr Operation → Ptr Operation) (t : KitTree) where
   abbrev made : OccurrenceOf KitOperation KitBlock → OccurrenceOf KitOperation KitBlock
   made o = rename_occurrence (maps_of names) (decide_occurrence kit w.alone o)
 
@@ -139,7 +139,7 @@ module _ (w : TreeSurroundings by_handle IntegerAttr) (names : Ptr Operation →
   }
 
 module _ (w : TreeSurroundings by_handle IntegerAttr) (leads : TypeHandle → Option KitType)
-    (names : Ptr Operation → Ptr Operation) (typed : Value → Option TypeHandle) (t : PassedTree)
+    (names : Ptr Operation → Ptr Operation) (typed : Value → Option TypeHandle) (t : KitTree)
     (good : IsGood leads typed t) where
   is_pruned : rename_root (maps_of names) (decided kit w t) ≡ prune_tree (decisions w.alone names) t
   is_pruned = root_is w.alone names t

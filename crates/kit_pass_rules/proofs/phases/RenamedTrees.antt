@@ -6,9 +6,9 @@ use Rattle.ir_trees.specs.Renames.{KeepsApart, rename_head, rename_label, rename
 use Rattle.ir_trees.specs.Searched.{Lists, heads_in, heads_of, operation_names}
 use Rattle.ir_trees.specs.Stands.{by_handle, in_program, ProgramLabel}
 use Rattle.ir_trees.specs.Trees.{Sort, end, operation, block, region}
+use Rattle.kit.specs.Context.{KitTree}
 use Rattle.kit.specs.Meaning.{KitOperation, KitBlock}
 use Rattle.kit_pass_rules.specs.Names.{maps_of}
-use Rattle.kit_pass_rules.specs.Worlds.{PassedTree}
 use Rattle.kit_pass_rules.proofs.Lists.{index_of_has}
 use Rattle.kit_pass_rules.proofs.Walk.{OccurrenceOf}
 use Rattle.kit_pass_rules.specs.CutLaws.{RenamedKeepsRules, RenamedStaysGood}
@@ -45,7 +45,7 @@ heads_has (region bs rest) c o h = ⊎_elim
     (λ i. has-right o.head (heads_in bs) (heads_in rest) (heads_has rest (next_region c) o i))
     (has-append o (occurrences_in bs c) (occurrences_in rest (next_region c)) h)
 
-pub name_listed : (t : PassedTree) (o : OccurrenceOf KitOperation KitBlock) → Has o (occurrences_of t) →
+pub name_listed : (t : KitTree) (o : OccurrenceOf KitOperation KitBlock) → Has o (occurrences_of t) →
     Lists (operation_names t) o.head.name
 name_listed t o h = index_of_has (operation_names t) o.head.name
     (has-map (λ (z : KitHead). z.name) o.head (heads_of t) (inr (heads_has t.regions (at_root t) o h)))
@@ -71,7 +71,7 @@ module _ (names : Ptr Operation → Ptr Operation) where
   abbrev other_names : Pruning
   other_names = record { names = names; taken = λ h rs. None; gone = λ b. false }
 
-  may_rename : (t : PassedTree) → MayPrune other_names t
+  may_rename : (t : KitTree) → MayPrune other_names t
   may_rename t = record {
     conditional = λ h rs i e. absurd (none_some i e);
     one_of_two = λ h rs i e. absurd (none_some i e);
@@ -86,10 +86,10 @@ module _ (names : Ptr Operation → Ptr Operation) where
   renamed_is (block l os rest) = λ i. block (label_renamed l i) (renamed_is os i) (renamed_is rest i)
   renamed_is (region bs rest) = λ i. region (renamed_is bs i) (renamed_is rest i)
 
-  root_is : (t : PassedTree) → rename_root (maps_of names) t ≡ prune_tree other_names t
+  root_is : (t : KitTree) → rename_root (maps_of names) t ≡ prune_tree other_names t
   root_is t = λ i. record { head = head_renamed t.head i; regions = renamed_is t.regions i }
 
-  carries : (t : PassedTree) → KeepsApart names (operation_names t) → Carries t (rename_root (maps_of names) t)
+  carries : (t : KitTree) → KeepsApart names (operation_names t) → Carries t (rename_root (maps_of names) t)
   carries t apart = record {
     made = rename_occurrence (maps_of names);
     block_made = rename_block_occurrence (maps_of names);
@@ -109,7 +109,7 @@ same_names (operation h rs rest) = λ i. operation (head_renamed (λ o. o) h i) 
 same_names (block l os rest) = λ i. block (label_renamed (λ o. o) l i) (same_names os i) (same_names rest i)
 same_names (region bs rest) = λ i. region (same_names bs i) (same_names rest i)
 
-pub same_root : (t : PassedTree) → rename_root (maps_of (λ o. o)) t ≡ t
+pub same_root : (t : KitTree) → rename_root (maps_of (λ o. o)) t ≡ t
 same_root t = λ i. record { head = head_renamed (λ o. o) t.head i; regions = same_names t.regions i }
 
 pub renamed_keeps : RenamedKeepsRules

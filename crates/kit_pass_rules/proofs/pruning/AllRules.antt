@@ -2,12 +2,14 @@
 use Rattle.std.proofs.Common.{Option}
 use Rattle.ir_base.specs.declared.types.TypeHandle.{TypeHandle}
 use Rattle.ir_program.specs.declared.handles.Value.{Value}
+use Rattle.kit.specs.Context.{KitTree}
 use Rattle.kit_checks.specs.Faults.{Keeps}
+use Rattle.kit_checks.specs.KitWorld.{HasDeclaredTypes, kit_world}
 use Rattle.kit_checks.specs.declared.rule.Rule.{Rule}
 use Rattle.kit_checks.specs.declared.rule.Rule.TheVariants as rule
 use Rattle.kit_ops.specs.declared.types.KitType.{KitType}
 use Rattle.kit_pass_rules.specs.Laws.{IsGood}
-use Rattle.kit_pass_rules.specs.Worlds.{PassedTree, kit_world, IsTypedIn, ObeysIn}
+use Rattle.kit_pass_rules.specs.Worlds.{ObeysIn}
 use Rattle.kit_pass_rules.proofs.DceCame.{KitSite}
 use Rattle.kit_pass_rules.proofs.pruning.PrunedTrees.{Pruning, prune_tree}
 use Rattle.kit_pass_rules.proofs.pruning.PrunedSites.{MayPrune, Came, came_from}
@@ -19,9 +21,9 @@ use Rattle.kit_pass_rules.proofs.pruning.PlacementRules.{rule_root, rule_module,
 use Rattle.kit_pass_rules.proofs.pruning.PlacementRules.{rule_ends}
 use Rattle.kit_pass_rules.proofs.pruning.PlacementRules.{rule_visible}
 
-module _ (leads : TypeHandle → Option KitType) (old new : Value → Option TypeHandle) (g : Pruning) (t : PassedTree)
+module _ (leads : TypeHandle → Option KitType) (old new : Value → Option TypeHandle) (g : Pruning) (t : KitTree)
     (good : IsGood leads old t) (may : MayPrune g t)
-    (typed : IsTypedIn new (prune_tree g t)) where
+    (typed : HasDeclaredTypes new (prune_tree g t)) where
   kept : (r : Rule) (s : KitSite) → Came g t may s → Keeps (kit_world leads new) r s
   kept rule.RootIsModule s c = rule_root leads old new g t good may s c
   kept rule.ModuleHolds s c = rule_module leads old new g t good may s c

@@ -7,7 +7,9 @@ use Rattle.ir_program.specs.declared.handles.BasicBlock.{BasicBlock}
 use Rattle.ir_program.specs.declared.handles.Ptr.{Ptr}
 use Rattle.ir_program.specs.declared.handles.Value.{Value}
 use Rattle.ir_trees.specs.Searched.{Lists}
+use Rattle.kit.specs.Context.{KitTree}
 use Rattle.kit.specs.Meaning.{kit, first_size, forwards_of, range}
+use Rattle.kit_checks.specs.KitWorld.{HasDeclaredTypes, kit_world}
 use Rattle.kit_checks.specs.Rules as rules
 use Rattle.kit_checks.specs.Sites.{block_list}
 use Rattle.kit_checks.specs.Words.{is_branch, along_edge, segment, segment_sizes, sizes_or_none}
@@ -16,7 +18,6 @@ use Rattle.kit_ops.specs.declared.attributes.KitAttr.{KitAttr}
 use Rattle.kit_ops.specs.declared.kinds.KitOp.TheVariants as ops
 use Rattle.kit_ops.specs.declared.types.KitType.{KitType}
 use Rattle.kit_pass_rules.specs.Laws.{IsGood}
-use Rattle.kit_pass_rules.specs.Worlds.{PassedTree, kit_world, IsTypedIn}
 use Rattle.kit_pass_rules.proofs.DceCame.{KitAround, KitSite}
 use Rattle.kit_pass_rules.proofs.Left.{left, has_left_over}
 use Rattle.kit_pass_rules.proofs.Lists.{has_at_index, index_of_has}
@@ -58,7 +59,7 @@ one_left (Some y) zero x e = e
 one_left (Some y) (suc k) x e = absurd (none_some x e)
 
 -- what a conditional branch forwards along an edge are the operands of the edge
-module _ (leads : TypeHandle → Option KitType) (old : Value → Option TypeHandle) (u : PassedTree)
+module _ (leads : TypeHandle → Option KitType) (old : Value → Option TypeHandle) (u : KitTree)
     (is : u.head.content.kind ≡ ops.CondBr) (h : rules.HasSegments (kit_world leads old) u) where
   abbrev attributes_of : List (List ℕ × KitAttr)
   attributes_of = u.head.content.notes.attributes
@@ -105,9 +106,9 @@ module _ (leads : TypeHandle → Option KitType) (old : Value → Option TypeHan
           ∙ sym ((λ j. segment (parts j) (was j) 2) ∙ second_segment x fs ss first second fc sc))))
       step first second count x fs ss parts fc sc was size (suc (suc i)) less = absurd (omega (arith, less))
 
-module _ (leads : TypeHandle → Option KitType) (old new : Value → Option TypeHandle) (g : Pruning) (t : PassedTree)
+module _ (leads : TypeHandle → Option KitType) (old new : Value → Option TypeHandle) (g : Pruning) (t : KitTree)
     (good : IsGood leads old t) (may : MayPrune g t)
-    (typed : IsTypedIn new (prune_tree g t)) (u : PassedTree) (a : KitAround) (n : ℕ) (o : Was g t may u a n) where
+    (typed : HasDeclaredTypes new (prune_tree g t)) (u : KitTree) (a : KitAround) (n : ℕ) (o : Was g t may u a n) where
   same_types : (xs : List Value) → ((v : Value) → Has v xs → Has v u.head.operands) → map new xs ≡ map old xs
   same_types xs h = map_on new old xs (λ v i. operand_same leads old new g t good may typed u a n o v (h v i))
 
@@ -177,9 +178,9 @@ module _ (leads : TypeHandle → Option KitType) (old new : Value → Option Typ
         },
       ))
 
-module _ (leads : TypeHandle → Option KitType) (old new : Value → Option TypeHandle) (g : Pruning) (t : PassedTree)
+module _ (leads : TypeHandle → Option KitType) (old new : Value → Option TypeHandle) (g : Pruning) (t : KitTree)
     (good : IsGood leads old t) (may : MayPrune g t) where
-  pub rule_edges : IsTypedIn new (prune_tree g t) → (s : KitSite) → Came g t may s →
+  pub rule_edges : HasDeclaredTypes new (prune_tree g t) → (s : KitSite) → Came g t may s →
       rules.EdgesFit (kit_world leads new) s
   rule_edges typed _ at_root =
       by_taken g t (λ q. rules.EdgesFit (kit_world leads new) (record { op = pruned_by g t q; around = None }))

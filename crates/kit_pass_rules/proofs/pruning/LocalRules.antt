@@ -7,6 +7,8 @@ use Rattle.ir_program.specs.declared.handles.Ptr.{Ptr}
 use Rattle.ir_program.specs.declared.handles.Value.{Value}
 use Rattle.ir_trees.specs.Searched.{Lists}
 use Rattle.ir_trees.specs.Trees.{Blocks}
+use Rattle.kit.specs.Context.{KitTree}
+use Rattle.kit_checks.specs.KitWorld.{HasDeclaredTypes, kit_world}
 use Rattle.kit_checks.specs.Rules as rules
 use Rattle.kit_checks.specs.Sites.{operation_list, region_list}
 use Rattle.kit_checks.specs.Words.{Every, AreAllEqual, HaveTypes, types_of, bodies_of, members_of, is_module, signature}
@@ -18,7 +20,6 @@ use Rattle.kit_ops.specs.declared.kinds.KitOp.{KitOp}
 use Rattle.kit_ops.specs.declared.kinds.KitOp.TheVariants as ops
 use Rattle.kit_ops.specs.declared.types.KitType.{KitType}
 use Rattle.kit_pass_rules.specs.Laws.{IsGood}
-use Rattle.kit_pass_rules.specs.Worlds.{PassedTree, kit_world, IsTypedIn}
 use Rattle.kit_pass_rules.proofs.DceCame.{KitAround, KitSite}
 use Rattle.kit_pass_rules.proofs.Left.{has_left_over}
 use Rattle.kit_pass_rules.proofs.Lists.{has_at_index, index_of_has}
@@ -34,11 +35,11 @@ use Rattle.kit_pass_rules.proofs.pruning.PlacementRules.{operand_same}
 use Rattle.opt_trees.specs.Occurrences.{Has, cons_if}
 use Rattle.opt_trees.proofs.Lists.{some_same, none_some, length-map, has-map}
 
-module _ (leads : TypeHandle → Option KitType) (old new : Value → Option TypeHandle) (g : Pruning) (t : PassedTree)
+module _ (leads : TypeHandle → Option KitType) (old new : Value → Option TypeHandle) (g : Pruning) (t : KitTree)
     (good : IsGood leads old t) (may : MayPrune g t) where
   -- ---- constants and attributes
 
-  constant_kept : (u : PassedTree) → g.taken u.head u.regions ≡ None → rules.HasConstantValue (kit_world leads old) u →
+  constant_kept : (u : KitTree) → g.taken u.head u.regions ≡ None → rules.HasConstantValue (kit_world leads old) u →
       rules.HasConstantValue (kit_world leads new) (prune_tree g u)
   constant_kept u none h = record {
     value = h.value;
@@ -58,7 +59,7 @@ module _ (leads : TypeHandle → Option KitType) (old new : Value → Option Typ
       keeps leads old new g t good may u a n o rule.ConstantsFit in
       constant_kept u (none_now g u ops.Constant e (λ x. cc x)) (r (kind_before g u ops.Constant e (λ x. cc x)))
 
-  attributes_kept : (u : PassedTree) → Every (rules.MayHave u.head.content.kind) u.head.content.notes.attributes →
+  attributes_kept : (u : KitTree) → Every (rules.MayHave u.head.content.kind) u.head.content.notes.attributes →
       Every (rules.MayHave (prune_tree g u).head.content.kind) (prune_tree g u).head.content.notes.attributes
   attributes_kept u h = by_taken g u (λ q. Every (rules.MayHave (content_by q u.head).kind)
       (content_by q u.head).notes.attributes) h
@@ -84,12 +85,12 @@ module _ (leads : TypeHandle → Option KitType) (old new : Value → Option Typ
 
   -- ---- types
 
-  module _ (typed : IsTypedIn new (prune_tree g t)) where
-    same_types : (u : PassedTree) (a : KitAround) (n : ℕ) → Was g t may u a n →
+  module _ (typed : HasDeclaredTypes new (prune_tree g t)) where
+    same_types : (u : KitTree) (a : KitAround) (n : ℕ) → Was g t may u a n →
         map new u.head.operands ≡ map old u.head.operands
     same_types u a n o = map_on new old u.head.operands (operand_same leads old new g t good may typed u a n o)
 
-    kind_types : (u : PassedTree) (a : KitAround) (n : ℕ) → Was g t may u a n → (k : KitOp) →
+    kind_types : (u : KitTree) (a : KitAround) (n : ℕ) → Was g t may u a n → (k : KitOp) →
         rules.HasKindTypes (kit_world leads old) u k → rules.HasKindTypes (kit_world leads new) (pruned_by g u None) k
     kind_types u a n o (ops.Arithmetic x) h =
         subst AreAllEqual (sym (ap (λ l. l ++ map Some (types_of u.head.results)) (same_types u a n o))) h
@@ -118,7 +119,7 @@ module _ (leads : TypeHandle → Option KitType) (old new : Value → Option Typ
 
     -- ---- calls and returns
 
-    have_types : (u : PassedTree) (a : KitAround) (n : ℕ) → Was g t may u a n → g.taken u.head u.regions ≡ None →
+    have_types : (u : KitTree) (a : KitAround) (n : ℕ) → Was g t may u a n → g.taken u.head u.regions ≡ None →
         (hs : List TypeHandle) →
         HaveTypes (kit_world leads old) u.head.operands hs → HaveTypes (kit_world leads new)
         (prune_tree g u).head.operands hs
@@ -138,7 +139,7 @@ module _ (leads : TypeHandle → Option KitType) (old new : Value → Option Typ
         have_types u a n o (none_now g u ops.Return e (λ x. cc x)) f.results.items
         (r (kind_before g u ops.Return e (λ x. cc x)) a f (refl, owner) signed)
 
-    first_module_pruned : (us : List PassedTree) (s : PassedTree) → first_module (kit_world leads old) us ≡ Some s →
+    first_module_pruned : (us : List KitTree) (s : KitTree) → first_module (kit_world leads old) us ≡ Some s →
         Has s us × (s.head.content.kind ≡ ops.Module)
         × (first_module (kit_world leads new) (map (prune_tree g) us) ≡ Some (prune_tree g s))
     first_module_pruned [] s e = absurd (none_some s e)
@@ -160,13 +161,13 @@ module _ (leads : TypeHandle → Option KitType) (old new : Value → Option Typ
             (prune_tree g s))
         step true m q ih = let z : u ≡ s = some_same u s q in (
           inl (sym z),
-          subst (λ (x : PassedTree). x.head.content.kind ≡ ops.Module) z
+          subst (λ (x : KitTree). x.head.content.kind ≡ ops.Module) z
               (is_module_kind u.head.content.kind m),
           ap (λ x. Some (prune_tree g x)) z,
         )
         step false m q ih = let r = ih q in (inr r.0, r.1, r.2)
 
-    member_pruned : (x y : PassedTree) → ((body : KitBody) → Has body (bodies_of x) → goes g body ≡ false) →
+    member_pruned : (x y : KitTree) → ((body : KitBody) → Has body (bodies_of x) → goes g body ≡ false) →
         Lists (members_of x) y → Lists (members_of (prune_tree g x)) (prune_tree g y)
     member_pruned x y stays l =
         let b = from_joined (λ (b : KitBody). operation_list b.operations) (bodies_of x) y
@@ -182,7 +183,7 @@ module _ (leads : TypeHandle → Option KitType) (old new : Value → Option Typ
         (in_joined (λ (b : KitBody). operation_list b.operations) (bodies_of (prune_tree g x)) (prune_body g body)
         (prune_tree g y) bodies ops)
 
-    calls : (u : PassedTree) (a : KitAround) (n : ℕ) → Was g t may u a n → g.taken u.head u.regions ≡ None →
+    calls : (u : KitTree) (a : KitAround) (n : ℕ) → Was g t may u a n → g.taken u.head u.regions ≡ None →
         rules.CallsFunction (kit_world leads old) u a → rules.CallsFunction (kit_world leads new) (prune_tree g u)
         (prune_around g a n)
     calls u a n o none h =
@@ -224,14 +225,14 @@ module _ (leads : TypeHandle → Option KitType) (old new : Value → Option Typ
 
   -- ---- formats
 
-  regions_count : (u : PassedTree) → length (region_list (prune g u.regions)) ≡ length (region_list u.regions)
+  regions_count : (u : KitTree) → length (region_list (prune g u.regions)) ≡ length (region_list u.regions)
   regions_count u = ap length (regions_pruned g u.regions) ∙ length-map (λ (bs : KitListed Blocks). prune g bs)
       (region_list u.regions)
 
-  counts : (u : PassedTree) (r s n : ℕ) → rules.Counts u r s n → rules.Counts (pruned_by g u None) r s n
+  counts : (u : KitTree) (r s n : ℕ) → rules.Counts u r s n → rules.Counts (pruned_by g u None) r s n
   counts u r s n h = record { results = h.results; successors = h.successors; regions = regions_count u ∙ h.regions }
 
-  fits : (u : PassedTree) (k : KitOp) → rules.FitsKind (kit_world leads old) u k → rules.FitsKind (kit_world leads new)
+  fits : (u : KitTree) (k : KitOp) → rules.FitsKind (kit_world leads old) u k → rules.FitsKind (kit_world leads new)
       (pruned_by g u None) k
   fits u ops.Module h = (counts u 0 0 1 h.0, h.1, h.2)
   fits u ops.Func h = (counts u 0 0 1 h.0, h.1, h.2, h.3)
@@ -258,7 +259,7 @@ module _ (leads : TypeHandle → Option KitType) (old new : Value → Option Typ
       step (x ∷ xs) zero less = refl
       step (x ∷ xs) (suc i) less = step xs i (omega (arith, less))
 
-  format : (u : PassedTree) → rules.FitsKind (kit_world leads old) u u.head.content.kind →
+  format : (u : KitTree) → rules.FitsKind (kit_world leads old) u u.head.content.kind →
       rules.FitsKind (kit_world leads new) (prune_tree g u) (prune_tree g u).head.content.kind
   format u h = by_taken g u (λ q. rules.FitsKind (kit_world leads new) (pruned_by g u q) (content_by q u.head).kind)
       (fits u u.head.content.kind h)

@@ -6,8 +6,10 @@ use Rattle.ir_base.specs.declared.types.TypeHandle.{TypeHandle}
 use Rattle.ir_program.specs.declared.handles.Value.{Value}
 use Rattle.ir_trees.specs.Searched.{Lists}
 use Rattle.ir_trees.specs.Trees.{Blocks}
+use Rattle.kit.specs.Context.{KitTree}
 use Rattle.kit.specs.Meaning.{KitOperation, KitBlock}
 use Rattle.kit_checks.specs.Faults.{Keeps}
+use Rattle.kit_checks.specs.KitWorld.{HasDeclaredTypes, kit_world}
 use Rattle.kit_checks.specs.Rules as rules
 use Rattle.kit_checks.specs.Sites.{operation_list, block_list, region_list}
 use Rattle.kit_checks.specs.Words.{Every, IsValueType, types_of, joined, first_body, bodies_of, kind_of, is_terminator}
@@ -20,7 +22,6 @@ use Rattle.kit_ops.specs.declared.kinds.KitOp.{KitOp}
 use Rattle.kit_ops.specs.declared.kinds.KitOp.TheVariants as ops
 use Rattle.kit_ops.specs.declared.types.KitType.{KitType}
 use Rattle.kit_pass_rules.specs.Laws.{IsGood}
-use Rattle.kit_pass_rules.specs.Worlds.{PassedTree, kit_world, IsTypedIn}
 use Rattle.kit_pass_rules.proofs.DceCame.{KitAround, KitSite}
 use Rattle.kit_pass_rules.proofs.Left.{left}
 use Rattle.kit_pass_rules.proofs.Lists.{map_get, map_at, has_at_index, index_of_has}
@@ -43,7 +44,7 @@ map_none : {X Y : Type 0} (f : X → Y) (xs : List X) → map f xs ≡ [] → xs
 map_none f [] e = refl
 map_none f (x ∷ xs) e = absurd (cc e)
 
-module _ (leads : TypeHandle → Option KitType) (old new : Value → Option TypeHandle) (g : Pruning) (t : PassedTree)
+module _ (leads : TypeHandle → Option KitType) (old new : Value → Option TypeHandle) (g : Pruning) (t : KitTree)
     (good : IsGood leads old t) (may : MayPrune g t) where
   abbrev pub before : World KitOperation KitBlock
   before = kit_world leads old
@@ -60,15 +61,15 @@ module _ (leads : TypeHandle → Option KitType) (old new : Value → Option Typ
   root_keeps r = good.obeys r [] root_site refl
 
   -- the operation with what is around it
-  abbrev pub site_in : PassedTree → KitAround → KitSite
+  abbrev pub site_in : KitTree → KitAround → KitSite
   site_in u a = record { op = u; around = Some a }
 
-  pub child : (u : PassedTree) (a : KitAround) (n : ℕ) (o : Was g t may u a n) →
+  pub child : (u : KitTree) (a : KitAround) (n : ℕ) (o : Was g t may u a n) →
       Child t (record { op = a.owner; around = o.up_around }) a.outer o.up a.number a.body u (site_in u a)
   child u a n o = child_of t (record { op = a.owner; around = o.up_around }) a.outer o.up o.region a.number a.index
       a.blocks a.body u o.region_here o.block_here o.here
 
-  pub keeps : (u : PassedTree) (a : KitAround) (n : ℕ) → Was g t may u a n → (q : Rule) → Keeps before q (site_in u a)
+  pub keeps : (u : KitTree) (a : KitAround) (n : ℕ) → Was g t may u a n → (q : Rule) → Keeps before q (site_in u a)
   keeps u a n o q = let c = child u a n o in good.obeys q c.place (site_in u a) c.at_place
 
   root_kind : t.head.content.kind ≡ ops.Module
@@ -86,14 +87,14 @@ module _ (leads : TypeHandle → Option KitType) (old new : Value → Option Typ
   -- ---- operands
 
   -- rule 7
-  listed : (u : PassedTree) (a : KitAround) (n : ℕ) → Was g t may u a n → (v : Value) → Has v u.head.operands →
+  listed : (u : KitTree) (a : KitAround) (n : ℕ) → Was g t may u a n → (v : Value) → Has v u.head.operands →
       Lists (visible a) v
   listed u a n o v h =
       let r : rules.OperandsAreVisible before (site_in u a) = keeps u a n o rule.OperandsAreVisible in
       let i = index_of_has u.head.operands v h in
       r.inside a refl i.0 v i.1
 
-  pub operand_same : IsTypedIn new (prune_tree g t) → (u : PassedTree) (a : KitAround) (n : ℕ) → Was g t may u a n →
+  pub operand_same : HasDeclaredTypes new (prune_tree g t) → (u : KitTree) (a : KitAround) (n : ℕ) → Was g t may u a n →
       (v : Value) → Has v u.head.operands → new v ≡ old v
   operand_same typed u a n o v h =
       let l = listed u a n o v h in
@@ -121,7 +122,7 @@ module _ (leads : TypeHandle → Option KitType) (old new : Value → Option Typ
   rule_root _ at_root = λ e. ap (λ q. (content_by q t.head).kind) root_none ∙ root_kind
   rule_root _ (below u a n o) = λ e. absurd (none_some (prune_around g a n) (sym e))
 
-  module_body : (u : PassedTree) → ModuleStays g u → u.head.content.kind ≡ ops.Module → rules.HasModuleBody u →
+  module_body : (u : KitTree) → ModuleStays g u → u.head.content.kind ≡ ops.Module → rules.HasModuleBody u →
       rules.HasModuleBody (prune_tree g u)
   module_body u stays e h = record {
     body = prune_body g h.body;
@@ -139,7 +140,7 @@ module _ (leads : TypeHandle → Option KitType) (old new : Value → Option Typ
       lists [] = refl
       lists (bs ∷ rs) = λ i. blocks_pruned g bs i ∷ lists rs i
 
-  fresh_name : (u : PassedTree) (a : KitAround) (n : ℕ) → rules.HasFreshName before a u →
+  fresh_name : (u : KitTree) (a : KitAround) (n : ℕ) → rules.HasFreshName before a u →
       rules.HasFreshName after (prune_around g a n) (prune_tree g u)
   fresh_name u a n fresh k other name less here named own =
       let x = map_at (prune_tree g) (operation_list a.body.operations) k other
@@ -147,7 +148,7 @@ module _ (leads : TypeHandle → Option KitType) (old new : Value → Option Typ
       fresh k x.0 name less x.1 (symbol_before g leads old new x.0 name (ap (symbol_name after) x.2 ∙ named))
       (symbol_before g leads old new u name own)
 
-  symbol_stays : (u : PassedTree) → is_symbol u.head.content.kind ≡ true →
+  symbol_stays : (u : KitTree) → is_symbol u.head.content.kind ≡ true →
       is_symbol (prune_tree g u).head.content.kind ≡ true
   symbol_stays u h = by_taken g u (λ q. is_symbol (content_by q u.head).kind ≡ true) h
       (λ i q. let x : false ≡ true = sym (ap is_symbol (may.conditional u.head u.regions i q)) ∙ h in absurd (cc x))
@@ -181,7 +182,7 @@ module _ (leads : TypeHandle → Option KitType) (old new : Value → Option Typ
 
   -- ---- functions
 
-  function_body : (s : KitSite) (outer : List PassedTree) → Standing t s outer → g.taken s.op.head s.op.regions ≡ None →
+  function_body : (s : KitSite) (outer : List KitTree) → Standing t s outer → g.taken s.op.head s.op.regions ≡ None →
       rules.HasFunctionBody before s.op → rules.HasFunctionBody after (prune_tree g s.op)
   function_body s outer up none h =
       let x = both first_body (slice_get (region_list s.op.regions) 0) h.entry h.has_entry in
@@ -232,7 +233,7 @@ module _ (leads : TypeHandle → Option KitType) (old new : Value → Option Typ
 
   -- ---- ends of blocks
 
-  filled : (u : PassedTree) → Every (λ (b : KitBody). operation_list b.operations ≢ []) (bodies_of u) →
+  filled : (u : KitTree) → Every (λ (b : KitBody). operation_list b.operations ≢ []) (bodies_of u) →
       Every (λ (b : KitBody). operation_list b.operations ≢ []) (bodies_of (prune_tree g u))
   filled u = every_body g (λ (b : KitBody). operation_list b.operations ≢ [])
       (λ b h e. h (map_none (prune_tree g) (operation_list b.operations) (sym (operations_pruned g b.operations)

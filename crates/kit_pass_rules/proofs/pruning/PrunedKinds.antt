@@ -3,11 +3,12 @@ use Rattle.std.proofs.Common.{◌≡◌, ◌⊎◌, ⊎_elim, inl, inr, ℕ, zer
 use Rattle.std.proofs.Common.{Some, None, slice_get, refl, sym, ap, ◌∙◌, subst}
 use Rattle.ir_base.specs.declared.types.TypeHandle.{TypeHandle}
 use Rattle.ir_program.specs.declared.handles.Value.{Value}
+use Rattle.kit.specs.Context.{KitTree}
+use Rattle.kit_checks.specs.KitWorld.{kit_world}
 use Rattle.kit_checks.specs.Words.{Every, bodies_of, is_terminator, is_module, symbol_name, segment, along_edge}
 use Rattle.kit_ops.specs.declared.kinds.KitOp.{KitOp}
 use Rattle.kit_ops.specs.declared.kinds.KitOp.TheVariants as ops
 use Rattle.kit_ops.specs.declared.types.KitType.{KitType}
-use Rattle.kit_pass_rules.specs.Worlds.{PassedTree, kit_world}
 use Rattle.kit_pass_rules.proofs.Left.{origin}
 use Rattle.kit_pass_rules.proofs.Lists.{has_at_index, map_same}
 use Rattle.kit_pass_rules.proofs.Thin.{KitBody}
@@ -68,18 +69,18 @@ is_module_kind k e = absurd (cc e)
 
 module _ (g : Pruning) where
   -- the operation where it takes the edge, or none
-  abbrev pub pruned_by : PassedTree → Option ℕ → PassedTree
+  abbrev pub pruned_by : KitTree → Option ℕ → KitTree
   pruned_by u q = record { head = head_by (g.names u.head.name) q u.head; regions = prune g u.regions }
 
   -- what holds of the blocks in it holds of those that stay
-  pub every_body : (P : KitBody → Type 0) → ((b : KitBody) → P b → P (prune_body g b)) → (u : PassedTree) →
+  pub every_body : (P : KitBody → Type 0) → ((b : KitBody) → P b → P (prune_body g b)) → (u : KitTree) →
       Every P (bodies_of u) → Every P (bodies_of (prune_tree g u))
   every_body P f u h k b e =
       let o = origin (goes g) (prune_body g) (bodies_of u) k b (sym (ap (λ l. slice_get l k) (bodies_pruned g u))
       ∙ e) in
       subst P o.is (f o.it (h o.index o.it o.here))
 
-  pub by_taken : (u : PassedTree) (P : Option ℕ → Type 0) → P None → ((i : ℕ) → g.taken u.head u.regions ≡ Some i →
+  pub by_taken : (u : KitTree) (P : Option ℕ → Type 0) → P None → ((i : ℕ) → g.taken u.head u.regions ≡ Some i →
       P (Some i)) → P (g.taken u.head u.regions)
   by_taken u P none some = step (g.taken u.head u.regions) refl
     where
@@ -88,7 +89,7 @@ module _ (g : Pruning) where
       step (Some i) e = some i e
 
   -- an operation of a kind other than `br` is what it was
-  pub none_now : (u : PassedTree) (k : KitOp) → (prune_tree g u).head.content.kind ≡ k → (ops.Br ≡ k → ⊥) →
+  pub none_now : (u : KitTree) (k : KitOp) → (prune_tree g u).head.content.kind ≡ k → (ops.Br ≡ k → ⊥) →
       g.taken u.head u.regions ≡ None
   none_now u k e other = step (g.taken u.head u.regions) e
     where
@@ -96,28 +97,28 @@ module _ (g : Pruning) where
       step None e = refl
       step (Some i) e = absurd (other e)
 
-  pub kind_before : (u : PassedTree) (k : KitOp) → (prune_tree g u).head.content.kind ≡ k → (ops.Br ≡ k → ⊥) →
+  pub kind_before : (u : KitTree) (k : KitOp) → (prune_tree g u).head.content.kind ≡ k → (ops.Br ≡ k → ⊥) →
       u.head.content.kind ≡ k
   kind_before u k e other = ap (λ q. (content_by q u.head).kind) (sym (none_now u k e other)) ∙ e
 
-  module _ (t : PassedTree) (may : MayPrune g t) where
+  module _ (t : KitTree) (may : MayPrune g t) where
     -- and one that was of a kind other than `cond_br`
-    pub none_then : (u : PassedTree) (k : KitOp) → u.head.content.kind ≡ k → (k ≡ ops.CondBr → ⊥) →
+    pub none_then : (u : KitTree) (k : KitOp) → u.head.content.kind ≡ k → (k ≡ ops.CondBr → ⊥) →
         g.taken u.head u.regions ≡ None
     none_then u k e other = by_taken u (λ q. q ≡ None) refl
         (λ i q. absurd (other (sym e ∙ may.conditional u.head u.regions i q)))
 
-    pub terminator_same : (u : PassedTree) → is_terminator (prune_tree g u).head.content.kind ≡ is_terminator
+    pub terminator_same : (u : KitTree) → is_terminator (prune_tree g u).head.content.kind ≡ is_terminator
         u.head.content.kind
     terminator_same u = by_taken u (λ q. is_terminator (content_by q u.head).kind ≡ is_terminator u.head.content.kind)
         refl
         (λ i q. sym (ap is_terminator (may.conditional u.head u.regions i q)))
 
-    pub module_same : (u : PassedTree) → is_module (prune_tree g u).head.content.kind ≡ is_module u.head.content.kind
+    pub module_same : (u : KitTree) → is_module (prune_tree g u).head.content.kind ≡ is_module u.head.content.kind
     module_same u = by_taken u (λ q. is_module (content_by q u.head).kind ≡ is_module u.head.content.kind) refl
         (λ i q. sym (ap is_module (may.conditional u.head u.regions i q)))
 
-  pub symbol_before : (leads : TypeHandle → Option KitType) (old new : Value → Option TypeHandle) (u : PassedTree)
+  pub symbol_before : (leads : TypeHandle → Option KitType) (old new : Value → Option TypeHandle) (u : KitTree)
       (name : List ℕ) →
       symbol_name (kit_world leads new) (prune_tree g u) ≡ Some name → symbol_name (kit_world leads old) u ≡ Some name
   symbol_before leads old new u name e = step (g.taken u.head u.regions) e

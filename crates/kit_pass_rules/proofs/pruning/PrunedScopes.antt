@@ -7,13 +7,14 @@ use Rattle.std.proofs.lemmas.List.{take-map}
 use Rattle.ir_base.specs.declared.types.TypeHandle.{TypeHandle}
 use Rattle.ir_program.specs.declared.handles.Value.{Value}
 use Rattle.ir_trees.specs.Trees.{Defined, Blocks}
+use Rattle.kit.specs.Context.{KitTree}
+use Rattle.kit_checks.specs.KitWorld.{HasDeclaredTypes}
 use Rattle.kit_checks.specs.Sites.{operation_list, block_list}
 use Rattle.kit_checks.specs.Words.{joined, values_of, results_of, values_before, values_in, values_if, first_body}
 use Rattle.kit_checks.specs.Words.{visible}
 use Rattle.kit_checks.proofs.Passed.{from_joined, in_joined}
 use Rattle.kit_ops.specs.declared.types.KitType.{KitType}
 use Rattle.kit_pass_rules.specs.Laws.{IsGood}
-use Rattle.kit_pass_rules.specs.Worlds.{PassedTree, IsTypedIn}
 use Rattle.kit_pass_rules.proofs.DceCame.{KitAround}
 use Rattle.kit_pass_rules.proofs.Lists.{map_get, map_at, from_take, has_at_index, index_of_has}
 use Rattle.kit_pass_rules.proofs.Thin.{KitBody}
@@ -32,8 +33,8 @@ same_test (suc m) zero f g = absurd (let e : suc m ≡ 0 = g refl in omega (arit
 same_test (suc m) (suc n) f g = eqb-suc-zero m ∙ sym (eqb-suc-zero n)
 
 module _ (g : Pruning) where
-  results_pruned : (us : List PassedTree) → results_of (map (prune_tree g) us) ≡ results_of us
-  results_pruned us = ap joined (map-map (λ (u : PassedTree). values_of u.head.results) (prune_tree g) us)
+  results_pruned : (us : List KitTree) → results_of (map (prune_tree g) us) ≡ results_of us
+  results_pruned us = ap joined (map-map (λ (u : KitTree). values_of u.head.results) (prune_tree g) us)
 
   pub taken_pruned : (body : KitBody) (k : ℕ) →
       results_of (take k (operation_list (prune g body.operations))) ≡ results_of
@@ -58,7 +59,7 @@ module _ (g : Pruning) where
   first_pruned blocks h = ap (λ l. slice_get l 0) (blocks_pruned g blocks) ∙ first_left (goes g) (prune_body g)
       (block_list blocks) h
 
-  module _ (t : PassedTree) (may : MayPrune g t) (u : PassedTree) (a : KitAround) (n : ℕ) (o : Was g t may u a n) where
+  module _ (t : KitTree) (may : MayPrune g t) (u : KitTree) (a : KitAround) (n : ℕ) (o : Was g t may u a n) where
     pub first_here : (body : KitBody) → slice_get (block_list a.blocks) 0 ≡ Some body → goes g body ≡ false
     first_here = entry_stays g t may (record { op = a.owner; around = o.up_around }) a.outer o.up o.region a.blocks
         o.region_here
@@ -71,9 +72,9 @@ module _ (g : Pruning) where
 
 -- ---- types
 
-module _ (leads : TypeHandle → Option KitType) (old new : Value → Option TypeHandle) (g : Pruning) (t : PassedTree)
+module _ (leads : TypeHandle → Option KitType) (old new : Value → Option TypeHandle) (g : Pruning) (t : KitTree)
     (good : IsGood leads old t)
-    (may : MayPrune g t) (typed : IsTypedIn new (prune_tree g t)) (u : PassedTree) (a : KitAround) (n : ℕ)
+    (may : MayPrune g t) (typed : HasDeclaredTypes new (prune_tree g t)) (u : KitTree) (a : KitAround) (n : ℕ)
     (o : Was g t may u a n) where
   module _ (b m : ℕ) (body : KitBody) (hb : slice_get (block_list a.blocks) b ≡ Some body)
       (new_hb : slice_get (block_list (prune g a.blocks)) m ≡ Some (prune_body g body)) where
@@ -94,8 +95,8 @@ module _ (leads : TypeHandle → Option KitType) (old new : Value → Option Typ
 
     results_same : (v : Value) → Has v (results_of (operation_list body.operations)) → new v ≡ old v
     results_same v h =
-        let x = from_joined (λ (z : PassedTree). values_of z.head.results) (operation_list body.operations) v h in
-        let it : PassedTree = x.0 in
+        let x = from_joined (λ (z : KitTree). values_of z.head.results) (operation_list body.operations) v h in
+        let it : KitTree = x.0 in
         let k = index_of_has (operation_list body.operations) it x.1 in
         let new_hk : slice_get (operation_list (prune g body.operations)) k.0 ≡ Some (prune_tree g it) =
         ap (λ l. slice_get l k.0) (operations_pruned g body.operations) ∙ map_get (prune_tree g)
@@ -122,10 +123,10 @@ module _ (leads : TypeHandle → Option KitType) (old new : Value → Option Typ
     before_same k v h = ⊎_elim (arguments_same v)
         (λ r.
         let ops = operation_list body.operations in
-        let x = from_joined (λ (z : PassedTree). values_of z.head.results) (take k ops) v r in
+        let x = from_joined (λ (z : KitTree). values_of z.head.results) (take k ops) v r in
         let i = index_of_has (take k ops) x.0 x.1 in
         let at = from_take ops k i.0 x.0 i.1 in
-        results_same v (in_joined (λ (z : PassedTree). values_of z.head.results) ops x.0 v
+        results_same v (in_joined (λ (z : KitTree). values_of z.head.results) ops x.0 v
         (has_at_index ops i.0 x.0 at.1) x.2))
         (has-append v (values_of body.label.arguments) (results_of (take k (operation_list body.operations))) h)
 

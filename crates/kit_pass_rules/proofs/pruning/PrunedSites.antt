@@ -3,12 +3,12 @@ use Rattle.std.proofs.Common.{◌≡◌, ⊎_elim, ℕ, zero, suc, ◌<◌, Bool
 use Rattle.std.proofs.Common.{None, slice_get, refl, sym, ap, ◌∙◌, subst}
 use Rattle.std.specs.Prelude.{if◌then◌else◌}
 use Rattle.ir_trees.specs.Trees.{Blocks, Regions}
+use Rattle.kit.specs.Context.{KitTree}
 use Rattle.kit.specs.Meaning.{KitOperation, KitBlock}
 use Rattle.kit_checks.specs.Sites.{operation_list, block_list, region_list, site_from, site_at}
 use Rattle.kit_checks.specs.Words.{bodies_of}
 use Rattle.kit_checks.proofs.Down.{step_to, stepped}
 use Rattle.kit_ops.specs.declared.kinds.KitOp.TheVariants as ops
-use Rattle.kit_pass_rules.specs.Worlds.{PassedTree}
 use Rattle.kit_pass_rules.proofs.DceCame.{KitAround, KitSite, body_at}
 use Rattle.kit_pass_rules.proofs.Left.{left, origin, Origin}
 use Rattle.kit_pass_rules.proofs.Lists.{map_at}
@@ -29,13 +29,13 @@ KitBlockOf = BlockOf KitOperation KitBlock
 
 -- what may be pruned of a tree: conditional branches alone take an edge, the entry of a region stays, and so do blocks
 -- of modules; where a block stays those stay that it leads to
-pub record MayPrune (g : Pruning) (t : PassedTree) : Type 0 where
+pub record MayPrune (g : Pruning) (t : KitTree) : Type 0 where
   pub conditional : (h : KitHead) (rs : KitListed Regions) (i : ℕ) → g.taken h rs ≡ Some i → h.content.kind ≡ ops.CondBr
   pub one_of_two : (h : KitHead) (rs : KitListed Regions) (i : ℕ) → g.taken h rs ≡ Some i → i < 2
   pub entries : (x : KitBlockOf) → Has x (block_occurrences_of t) → x.spot.first ≡ true → g.gone x.label.name ≡ false
   pub modules : (x : KitBlockOf) → Has x (block_occurrences_of t) → x.spot.owner.content.kind ≡ ops.Module →
       g.gone x.label.name ≡ false
-  pub targets : (c e : KitSpot) (body target : KitBody) (u : PassedTree) → Has (block_of c body) (block_occurrences_of t) →
+  pub targets : (c e : KitSpot) (body target : KitBody) (u : KitTree) → Has (block_of c body) (block_occurrences_of t) →
       Has (occurrence_of (within c body) u) (occurrences_of t) → Has (block_of e target) (block_occurrences_of t) →
       e.owner ≡ c.owner →
       g.gone body.label.name ≡ false → Has target.label.name u.head.successors → g.gone target.label.name ≡ false
@@ -67,7 +67,7 @@ module _ {X Y : Type 0} (p : X → Bool) (f : X → Y) (xs : List X) (stays : (x
       step (suc n) (z ∷ zs) at q = absurd (nothing z (take n zs) (sym q))
 
 -- the blocks of a module stay
-abbrev pub ModuleStays : Pruning → PassedTree → Type 0
+abbrev pub ModuleStays : Pruning → KitTree → Type 0
 ModuleStays g x = x.head.content.kind ≡ ops.Module → (body : KitBody) → Has body (bodies_of x) → goes g body ≡ false
 
 module _ (g : Pruning) where
@@ -82,29 +82,29 @@ module _ (g : Pruning) where
     index = a.index;
   }
 
-module _ (g : Pruning) (t : PassedTree) (may : MayPrune g t) where
+module _ (g : Pruning) (t : KitTree) (may : MayPrune g t) where
   -- the first block of a region stays
-  pub entry_stays : (s : KitSite) (outer : List PassedTree) → Standing t s outer → (r : ℕ) (blocks : KitListed Blocks) →
+  pub entry_stays : (s : KitSite) (outer : List KitTree) → Standing t s outer → (r : ℕ) (blocks : KitListed Blocks) →
       slice_get (region_list s.op.regions) r ≡ Some blocks → (body : KitBody) → slice_get (block_list blocks)
       0 ≡ Some body → goes g body ≡ false
   entry_stays s outer up r blocks hr body hb =
       let x = block_here t s outer up r 0 blocks body hr hb in
       may.entries (block_of x.spot body) x.block (x.first refl)
 
-  module_stays : (s : KitSite) (outer : List PassedTree) → Standing t s outer → ModuleStays g s.op
+  module_stays : (s : KitSite) (outer : List KitTree) → Standing t s outer → ModuleStays g s.op
   module_stays s outer up e body h =
       let b = body_at s.op body h in
       let x = block_here t s outer up b.region b.number b.blocks body b.region_here b.block_here in
       may.modules (block_of x.spot body) x.block (ap (λ (z : KitHead). z.content.kind) x.owner ∙ e)
 
   -- the operation's block stays, and its number is n then
-  pub record Was (u : PassedTree) (a : KitAround) (n : ℕ) : Type 0 where
+  pub record Was (u : KitTree) (a : KitAround) (n : ℕ) : Type 0 where
     pub up_around : Option KitAround
     pub new_around : Option KitAround
     pub up : Standing t (record { op = a.owner; around = up_around }) a.outer
     pub new_up : Standing (prune_tree g t) (record { op = prune_tree g a.owner; around = new_around })
         (map (prune_tree g) a.outer)
-    pub modules : (x : PassedTree) → Has x (a.owner ∷ a.outer) → ModuleStays g x
+    pub modules : (x : KitTree) → Has x (a.owner ∷ a.outer) → ModuleStays g x
     pub own_modules : ModuleStays g u
     pub region : ℕ
     pub region_here : slice_get (region_list a.owner.regions) region ≡ Some a.blocks
@@ -119,17 +119,17 @@ module _ (g : Pruning) (t : PassedTree) (may : MayPrune g t) where
 
   pub data Came : KitSite → Type 0 where
     at_root : Came (record { op = prune_tree g t; around = None })
-    below : (u : PassedTree) (a : KitAround) (n : ℕ) → Was u a n →
+    below : (u : KitTree) (a : KitAround) (n : ℕ) → Was u a n →
         Came (record { op = prune_tree g u; around = Some (prune_around g a n) })
 
-  modules_more : (u : PassedTree) (us : List PassedTree) → ModuleStays g u → ((x : PassedTree) → Has x us → ModuleStays g x) →
-      (x : PassedTree) → Has x (u ∷ us) → ModuleStays g x
+  modules_more : (u : KitTree) (us : List KitTree) → ModuleStays g u → ((x : KitTree) → Has x us → ModuleStays g x) →
+      (x : KitTree) → Has x (u ∷ us) → ModuleStays g x
   modules_more u us here others x h = ⊎_elim (λ q. subst (ModuleStays g) (sym q) here) (others x) h
 
-  walk : (u : PassedTree) (ar br : Option KitAround) (outer : List PassedTree)
+  walk : (u : KitTree) (ar br : Option KitAround) (outer : List KitTree)
       (up : Standing t (record { op = u; around = ar }) outer)
       (new_up : Standing (prune_tree g t) (record { op = prune_tree g u; around = br }) (map (prune_tree g) outer)) →
-      ((x : PassedTree) → Has x (u ∷ outer) → ModuleStays g x) →
+      ((x : KitTree) → Has x (u ∷ outer) → ModuleStays g x) →
       Came (record { op = prune_tree g u; around = br }) → (p : List ℕ) (s : KitSite) →
       site_from (record { op = prune_tree g u; around = br }) (map (prune_tree g) outer) p ≡ Some s → Came s
   walk u ar br outer up new_up modules came [] s e =

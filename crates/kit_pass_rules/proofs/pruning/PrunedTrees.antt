@@ -8,11 +8,11 @@ use Rattle.ir_program.specs.declared.handles.Ptr.{Ptr}
 use Rattle.ir_program.specs.declared.handles.Value.{Value}
 use Rattle.ir_trees.specs.Stands.{ProgramHead}
 use Rattle.ir_trees.specs.Trees.{Sort, Operations, Blocks, Regions, end, operation, block, region}
+use Rattle.kit.specs.Context.{KitTree}
 use Rattle.kit.specs.Meaning.{KitOperation, KitBlock, kit, operation_of}
 use Rattle.kit_checks.specs.Sites.{Listed, operation_list, block_list, region_list}
 use Rattle.kit_checks.specs.Words.{bodies_of, joined}
 use Rattle.kit_ops.specs.declared.kinds.KitOp.TheVariants as ops
-use Rattle.kit_pass_rules.specs.Worlds.{PassedTree}
 use Rattle.kit_pass_rules.proofs.Left.{left}
 use Rattle.kit_pass_rules.proofs.Thin.{KitBody}
 use Rattle.opt_trees.specs.Facts.{forwarded}
@@ -63,7 +63,7 @@ module _ (g : Pruning) where
   prune (block l ops rest) = if g.gone l.name then prune rest else block l (prune ops) (prune rest)
   prune (region bs rest) = region (prune bs) (prune rest)
 
-  abbrev pub prune_tree : PassedTree → PassedTree
+  abbrev pub prune_tree : KitTree → KitTree
   prune_tree u = record { head = prune_head u.head u.regions; regions = prune u.regions }
 
   abbrev pub prune_body : KitBody → KitBody
@@ -114,7 +114,7 @@ module _ (g : Pruning) where
       ∙ (sym (map-append (prune_body g) (left (goes g) (block_list bs)) (left (goes g) (joined (map block_list rs))))
       ∙ ap (map (prune_body g)) (sym (left_append (goes g) (block_list bs) (joined (map block_list rs))))))
 
-  pub bodies_pruned : (u : PassedTree) → bodies_of (prune_tree g u) ≡ map (prune_body g) (left (goes g) (bodies_of u))
+  pub bodies_pruned : (u : KitTree) → bodies_of (prune_tree g u) ≡ map (prune_body g) (left (goes g) (bodies_of u))
   bodies_pruned u = ap (λ l. joined (map block_list l)) (regions_pruned g u.regions)
       ∙ bodies_step (region_list u.regions)
 

@@ -4,6 +4,8 @@ use Rattle.std.specs.Prelude.{reverse}
 use Rattle.ir_base.specs.declared.types.TypeHandle.{TypeHandle}
 use Rattle.ir_program.specs.declared.handles.Value.{Value}
 use Rattle.ir_trees.specs.Stands.{by_handle}
+use Rattle.kit.specs.Context.{KitTree}
+use Rattle.kit_checks.specs.KitWorld.{HasDeclaredTypes, kit_world}
 use Rattle.kit_ops.specs.declared.types.KitType.{KitType}
 use Rattle.kit_behaviour.specs.Machine.{Fun, FunctionsByPath}
 use Rattle.kit_behaviour.specs.PassLists.{Fit}
@@ -13,7 +15,7 @@ use Rattle.kit_behaviour.proofs.FiniteLemmas.{finite_fit}
 use Rattle.kit_checks.specs.declared.rule.Rule.{Rule}
 use Rattle.kit_checks.specs.Faults.{KeptEverywhere}
 use Rattle.kit_views.specs.FlatView.{IsSameness}
-use Rattle.kit_ruled_views.specs.Ruled.{KitTree, kit_world, HasOwnNames, HaveTypesIn, type_or_first}
+use Rattle.kit_ruled_views.specs.Ruled.{HasOwnNames, type_or_first}
 use Rattle.kit_ruled_views.specs.Paths.{locate}
 use Rattle.kit_ruled_views.specs.Programs.{HasFunctionView, IsProgramOf}
 use Rattle.kit_ruled_views.proofs.programs.RuledSound.{ruled_sound}
@@ -40,7 +42,7 @@ module _ (leads : TypeHandle → Option KitType) (typed : Value → Option TypeH
   rules_at path (Some u) e q h = subst Rules (sym h.2)
       (ruled_rules leads typed numbered u (ruled_at leads typed numbered t keeps (reverse path) u e) h.0 h.1 same law)
 
-  pub fit_program : HasOwnNames t → HaveTypesIn typed t → Fit p
+  pub fit_program : HasOwnNames t → HasDeclaredTypes typed t → Fit p
   fit_program own have =
       finite_fit p (λ path. rules_at path (locate numbered (reverse path) t) refl (p path) (is path))
       (finite_program {N = by_handle} same leads numbered (type_or_first typed) t

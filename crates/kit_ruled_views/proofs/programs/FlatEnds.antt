@@ -6,6 +6,7 @@ use Rattle.ir_program.specs.declared.handles.Ptr.{Ptr}
 use Rattle.ir_program.specs.declared.handles.Value.{Value}
 use Rattle.ir_trees.specs.Names.{Names, Contents}
 use Rattle.ir_trees.specs.Trees.{Head, Operations, end, operation}
+use Rattle.kit.specs.Context.{KitTree}
 use Rattle.kit.specs.Meaning.{KitOperation, KitBlock}
 use Rattle.kit_behaviour.specs.Machine.{Arith, Calculated, Compared, Plain, Nonzero, Cases, Op, Const}
 use Rattle.kit_behaviour.specs.Machine.{Calc, Emit, Call, Branch, Return}
@@ -14,7 +15,6 @@ use Rattle.kit_checks.specs.Sites.{Listed, operation_list}
 use Rattle.kit_checks.specs.Words as words
 use Rattle.kit_views.specs.FlatView.{kind_of, IsOp, AreOps}
 use Rattle.kit_views.specs.Reading.{Reading, kit_contents}
-use Rattle.kit_ruled_views.specs.Ruled.{KitTree}
 
 goes_on : (f : Arith) → words.is_terminator (kind_of f) ≡ false
 goes_on (Calculated a) = refl

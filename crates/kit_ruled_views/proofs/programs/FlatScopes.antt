@@ -8,6 +8,7 @@ use Rattle.ir_trees.specs.Names.{Names, Contents}
 use Rattle.ir_trees.specs.Renames.{names_of}
 use Rattle.ir_trees.specs.Trees.{Head, Operations, end, operation, block}
 use Rattle.ir_trees.proofs.Members.{has_either}
+use Rattle.kit.specs.Context.{KitTree}
 use Rattle.opt_trees.specs.Occurrences.{Has}
 use Rattle.kit.specs.Meaning.{KitOperation, KitBlock}
 use Rattle.kit_behaviour.specs.Machine.{Plain, Nonzero, Cases, Op, Const, Calc, Emit, Call, Branch, Return, Fun}
@@ -19,7 +20,6 @@ use Rattle.kit_checks.specs.Sites.{Listed, operation_list}
 use Rattle.kit_checks.specs.Words.{values_before, values_if, first_body, results_of}
 use Rattle.kit_views.specs.FlatView.{IsOp, AreOps, AreFlatBlocks}
 use Rattle.kit_views.specs.Reading.{Reading, kit_contents}
-use Rattle.kit_ruled_views.specs.Ruled.{KitTree}
 use Rattle.kit_ruled_views.proofs.FunctionSites.{KitBlocks, KitBody}
 use Rattle.kit_ruled_views.proofs.programs.FlatDefined.{results_are}
 

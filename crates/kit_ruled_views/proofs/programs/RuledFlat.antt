@@ -9,6 +9,7 @@ use Rattle.ir_program.specs.declared.handles.Value.{Value}
 use Rattle.ir_trees.specs.Renames.{names_of}
 use Rattle.ir_trees.specs.Trees.{Regions, end, block}
 use Rattle.ir_trees.proofs.Members.{at_has, has_at}
+use Rattle.kit.specs.Context.{KitTree}
 use Rattle.kit_ops.specs.declared.types.KitType.{KitType}
 use Rattle.kit.specs.Meaning.{KitOperation, KitBlock}
 use Rattle.kit_behaviour.specs.Machine.{Block, Fun, ops_left, arguments_of, arguments_in, size}
@@ -22,7 +23,7 @@ use Rattle.kit_checks.specs.Sites.{Listed, operation_list, block_list, region_li
 use Rattle.kit_checks.specs.Words.{joined, bodies_of, visible}
 use Rattle.kit_views.specs.FlatView.{IsSameness, AreOps, AreFlatBlocks, FlattensTo, names_in}
 use Rattle.kit_views.specs.Reading.{Reading, kit_contents, kit_reading}
-use Rattle.kit_ruled_views.specs.Ruled.{KitTree, IsRuledFunction}
+use Rattle.kit_ruled_views.specs.Ruled.{IsRuledFunction}
 use Rattle.kit_ruled_views.proofs.FunctionSites.{KitBlocks, KitBody, KitAround, own_keeps, inner_around, inner_keeps}
 use Rattle.kit_ruled_views.proofs.programs.FlatDistinct.{flat_distinct}
 use Rattle.kit_ruled_views.proofs.programs.FlatEnds.{LastEnds, ends_well}

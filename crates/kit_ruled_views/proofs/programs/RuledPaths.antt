@@ -5,6 +5,8 @@ use Rattle.std.specs.Prelude.{option_and_then, if◌then◌else◌}
 use Rattle.ir_base.specs.declared.types.TypeHandle.{TypeHandle}
 use Rattle.ir_program.specs.declared.handles.Value.{Value}
 use Rattle.ir_trees.specs.Trees.{Operations, Regions, end, operation, block, region}
+use Rattle.kit.specs.Context.{KitTree}
+use Rattle.kit_checks.specs.KitWorld.{kit_world}
 use Rattle.opt_trees.proofs.Lists.{some_same}
 use Rattle.kit.specs.Meaning.{KitOperation, KitBlock}
 use Rattle.kit_ops.specs.declared.kinds.KitOp.TheVariants as ops
@@ -12,7 +14,7 @@ use Rattle.kit_ops.specs.declared.types.KitType.{KitType}
 use Rattle.kit_checks.specs.declared.rule.Rule.{Rule}
 use Rattle.kit_checks.specs.Faults.{KeptEverywhere}
 use Rattle.kit_checks.specs.Sites.{Listed, Around, operation_list, block_list, region_list, site_at}
-use Rattle.kit_ruled_views.specs.Ruled.{KitTree, kit_world, IsRuledFunction}
+use Rattle.kit_ruled_views.specs.Ruled.{IsRuledFunction}
 use Rattle.kit_ruled_views.proofs.FunctionSites.{KitBlocks, KitBody, outer_if, inner_place}
 use Rattle.kit_ruled_views.specs.Paths.{is_function_named, is_module_named, first_with, members_in, locate}
 use Rattle.kit_ruled_views.proofs.programs.Located.{function_kind_of}

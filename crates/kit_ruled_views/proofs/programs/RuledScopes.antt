@@ -11,6 +11,7 @@ use Rattle.ir_trees.specs.Renames.{names_of}
 use Rattle.ir_trees.specs.Stands.{ProgramHead}
 use Rattle.ir_trees.specs.Trees.{Operations, Regions, end, operation, block}
 use Rattle.ir_trees.proofs.Members.{at_has, has_at, has_front, has_back, has_either}
+use Rattle.kit.specs.Context.{KitTree}
 use Rattle.opt_trees.specs.Occurrences.{Has}
 use Rattle.kit_ops.specs.declared.types.KitType.{KitType}
 use Rattle.kit.specs.Meaning.{KitOperation, KitBlock}
@@ -27,7 +28,7 @@ use Rattle.kit_checks.specs.Words.{bodies_of, first_body, joined, results_of, va
 use Rattle.kit_views.specs.FlatView.{kind_of, IsOp, AreOps, AreFlatBlocks, FlattensTo, names_in}
 use Rattle.kit_views.specs.Laws.{EndWell}
 use Rattle.kit_views.specs.Reading.{Reading, kit_contents, kit_reading}
-use Rattle.kit_ruled_views.specs.Ruled.{KitTree, IsRuledFunction}
+use Rattle.kit_ruled_views.specs.Ruled.{IsRuledFunction}
 use Rattle.kit_ruled_views.proofs.FunctionSites.{KitBlocks, KitBody, KitAround, own_keeps, inner_around, inner_keeps}
 use Rattle.kit_ruled_views.proofs.programs.FlatDefined.{results_are}
 

@@ -9,6 +9,8 @@ use Rattle.ir_trees.specs.Searched.{heads_in, labels_in, operation_names, block_
 use Rattle.ir_trees.specs.Names.{Names, Contents}
 use Rattle.ir_trees.specs.Stands.{by_handle}
 use Rattle.ir_trees.specs.Trees.{Head, Label, Sort, Operations, Blocks, Regions, Tree, end, operation, block, region}
+use Rattle.kit.specs.Context.{KitTree}
+use Rattle.kit_checks.specs.KitWorld.{HasDeclaredTypes, kit_world}
 use Rattle.opt_trees.specs.Occurrences.{Has, Occurrence, Inside, inner, next_block, next_region}
 use Rattle.opt_trees.specs.Occurrences.{occurrences_in, occurrences_of, block_occurrences_of, at_root}
 use Rattle.opt_trees.specs.Occurrences.{defined_in}
@@ -27,7 +29,7 @@ use Rattle.kit.specs.Meaning.{KitOperation, KitBlock}
 use Rattle.kit_views.specs.Reading.{kit_contents}
 use Rattle.kit_views.proofs.Lists.{Sub, sub_all, sub_none, sub_append, sub_map, sub_distinct, to_distinct}
 use Rattle.kit_views.proofs.Lists.{from_distinct}
-use Rattle.kit_ruled_views.specs.Ruled.{KitTree, kit_world, IsRuledFunction, HasOwnNames, HaveTypesIn, type_or_first}
+use Rattle.kit_ruled_views.specs.Ruled.{IsRuledFunction, HasOwnNames, type_or_first}
 use Rattle.kit_ruled_views.proofs.FunctionSites.{outer_if, inner_place, own_region, inner_around}
 use Rattle.kit_ruled_views.proofs.FunctionTypes as types
 use Rattle.kit_ruled_views.proofs.FunctionTypes.{typed_function}
@@ -308,8 +310,8 @@ module _ (leads : TypeHandle → Option KitType) (typed : Value → Option TypeH
   fine : (q : Op) → Has q (occurrences_of t) → Fine q
   fine = walk t.regions (at_root t) (λ q i. i) (held t [] None refl root_kind)
 
-  types_inside : HaveTypesIn typed t → (o : Op) → Has o (occurrences_of t) →
-      HaveTypesIn typed (tree_of {N = by_handle} o)
+  types_inside : HasDeclaredTypes typed t → (o : Op) → Has o (occurrences_of t) →
+      HasDeclaredTypes typed (tree_of {N = by_handle} o)
   types_inside have o stands = record {
     results = λ p i v h. have.results
         (lift {N = by_handle} {S = kit_contents} (o.head.name ∷ o.site.spot.around) (o.site.label.name ∷
@@ -339,7 +341,7 @@ module _ (leads : TypeHandle → Option KitType) (typed : Value → Option TypeH
         (o.site.label.name ∷ o.site.spot.within)) x (block_occurrences_of (tree_of {N = by_handle} o)) i))) v h;
   }
 
-  pub ruled_sound : (numbered : List ℕ → ℕ) → HasOwnNames t → HaveTypesIn typed t →
+  pub ruled_sound : (numbered : List ℕ → ℕ) → HasOwnNames t → HasDeclaredTypes typed t →
       IsSound {N = by_handle} leads numbered (type_or_first typed) t
   ruled_sound numbered own have = record {
     names = own;

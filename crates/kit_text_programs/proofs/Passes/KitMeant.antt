@@ -18,7 +18,7 @@ use Rattle.kit_ops.specs.declared.arithmetic.Arithmetic.{Arithmetic}
 use Rattle.kit_ops.specs.declared.arithmetic.Comparison.{Comparison}
 use Rattle.kit_ops.specs.declared.kinds.KitOp.{KitOp}
 use Rattle.kit_ops.specs.declared.kinds.KitOp.TheVariants as ops
-use Rattle.kit.specs.Meaning.{KitOperation, Entries, kit}
+use Rattle.kit.specs.Meaning.{Entries, kit}
 use Rattle.kit.specs.Meaning as kits
 use Rattle.kit_text_programs.specs.Meanings.{Number, Attribute, Integer, integers, kit_said, meanings, number_meant}
 use Rattle.kit_text_programs.specs.Meanings.{attribute_meant, entries_meant, number_in, are_numbers, with_bits}

@@ -8,6 +8,7 @@ use Rattle.ir_trees.specs.Renames.{HaveTests, IsSameUpToNames}
 use Rattle.ir_trees.specs.Stands.{by_handle}
 use Rattle.ir_trees.specs.Trees.{Root}
 use Rattle.ir_trees.proofs.Same.{same_back, same_on}
+use Rattle.kit.specs.Context.{KitTree}
 use Rattle.kit.specs.Meaning.{kit}
 use Rattle.kit_behaviour.specs.PassLists.{Pass, SccpPass, LeanSccpPass, DcePass, SimplifyPass}
 use Rattle.kit_ruled_views.specs.TreePasses.{IsDceAlone, IsSccpNamed, IsSimplifiedAlone, IsSoundTree, IsTreeAfter}
@@ -15,7 +16,6 @@ use Rattle.kit_ruled_views.specs.TreePasses.{IsTreePass, maps_of}
 use Rattle.kit_ops.specs.declared.attributes.IntegerAttr.{IntegerAttr}
 use Rattle.kit_ops.specs.declared.types.KitType.{KitType}
 use Rattle.kit_views.specs.Reading.{kit_contents}
-use Rattle.kit_writable_trees.specs.Laws.{WritableTree}
 use Rattle.opt_meanings.specs.Laws.{NonePinned}
 use Rattle.opt_meanings.specs.Meanings.{Bijection, mean_root, worded, worded_around}
 use Rattle.opt_meanings.proofs.DceMeant.{dce_meant}
@@ -70,10 +70,10 @@ module _ {N : Names} (c : Bijection TypeHandle ℕ) where
 
 -- two contexts
 module _ (c e : Bijection TypeHandle ℕ) where
-  abbrev Same : WritableTree → WritableTree → Type 0
+  abbrev Same : KitTree → KitTree → Type 0
   Same t u = SayTheSame c.to e.to t u
 
-  sccp_keeps : (t u r q : WritableTree) → Same t u → IsSccpNamed {N = by_handle} t r → IsSccpNamed {N = by_handle} u q → Same r q
+  sccp_keeps : (t u r q : KitTree) → Same t u → IsSccpNamed {N = by_handle} t r → IsSccpNamed {N = by_handle} u q → Same r q
   sccp_keeps t u r q same x y =
       let between = same_sccps kit_said handle_tests (mean_root (meanings c.to) t) (mean_root (meanings e.to) u) same
       (mean_root (meanings c.to) x.put) (mean_root (meanings e.to) y.put) (sccp_said c t x.put x.is) (sccp_said e u y.put y.is) in
@@ -87,7 +87,7 @@ module _ (c e : Bijection TypeHandle ℕ) where
       (same_back (mean_root (meanings c.to) x.put) (mean_root (meanings c.to) r) here)
       (same_on (mean_root (meanings c.to) x.put) (mean_root (meanings e.to) y.put) (mean_root (meanings e.to) q) between there)
 
-  dce_keeps : (t u r q : WritableTree) → Same t u → IsDceAlone {N = by_handle} t r → IsDceAlone {N = by_handle} u q → Same r q
+  dce_keeps : (t u r q : KitTree) → Same t u → IsDceAlone {N = by_handle} t r → IsDceAlone {N = by_handle} u q → Same r q
   dce_keeps t u r q same x y =
       same_dces kit_said handle_tests (mean_root (meanings c.to) t) (mean_root (meanings e.to) u) same
       (worded_around (integers c) x.around) (worded_around (integers e) y.around)
@@ -95,7 +95,7 @@ module _ (c e : Bijection TypeHandle ℕ) where
       (mean_root (meanings c.to) r) (mean_root (meanings e.to) q) (dce_said c x.around t r x.is) (dce_said e y.around u q y.is)
 
   module _ (leads others : TypeHandle → Option KitType) (numbered : List ℕ → ℕ) where
-    simplify_keeps : (t u r q : WritableTree) → Same t u → IsSoundTree {N = by_handle} leads numbered t →
+    simplify_keeps : (t u r q : KitTree) → Same t u → IsSoundTree {N = by_handle} leads numbered t →
         IsSoundTree {N = by_handle} others numbered u → IsSimplifiedAlone {N = by_handle} t r →
         IsSimplifiedAlone {N = by_handle} u q → Same r q
     simplify_keeps t u r q same sound well x y =
@@ -122,7 +122,7 @@ module _ (c e : Bijection TypeHandle ℕ) where
         (same_on (mean_root (meanings c.to) x.simplified) (mean_root (meanings e.to) y.simplified) (mean_root (meanings e.to) q)
         between there)
 
-    pass_keeps : (x : Pass) (t u r q : WritableTree) → Same t u → IsSoundTree {N = by_handle} leads numbered t →
+    pass_keeps : (x : Pass) (t u r q : KitTree) → Same t u → IsSoundTree {N = by_handle} leads numbered t →
         IsSoundTree {N = by_handle} others numbered u → IsTreePass {N = by_handle} x t r →
         IsTreePass {N = by_handle} x u q → Same r q
     pass_keeps SccpPass t u r q same a b x y = sccp_keeps t u r q same x y
@@ -131,7 +131,7 @@ module _ (c e : Bijection TypeHandle ℕ) where
     pass_keeps SimplifyPass t u r q same a b x y = simplify_keeps t u r q same a b x y
 
     -- of a list of passes, by induction on the list
-    pub passes_keep : (xs : List Pass) (t u r q : WritableTree) → Same t u → IsTreeAfter {N = by_handle} leads numbered xs t r →
+    pub passes_keep : (xs : List Pass) (t u r q : KitTree) → Same t u → IsTreeAfter {N = by_handle} leads numbered xs t r →
         IsTreeAfter {N = by_handle} others numbered xs u q → Same r q
     passes_keep [] t u r q same x y =
         subst (λ z. Same r z) y (subst (λ z. Same z u) x same)

@@ -13,6 +13,7 @@ use Rattle.ir_trees.specs.Stands.{head_of, defined_by, AreTree, no_operations, n
 use Rattle.ir_trees.specs.Stands.{no_regions, first_operation, first_block, first_region, ProgramHead, StandsFor}
 use Rattle.ir_trees.specs.Trees.{Sort, Operations, Blocks, Regions, Tree}
 use Rattle.ir_trees.specs.Trees as trees
+use Rattle.kit.specs.Context.{KitContext, KitTree}
 use Rattle.opt_meanings.specs.Meanings.{mean_defined, mean_head, mean, mean_root}
 use Rattle.text_dialect.specs.Seen.{SeenOperation, SeenBlock, seen, seen_operation, seen_block}
 use Rattle.text_dialect.specs.Standing.{HasDefinition, HasHead, HasTree, HaveRegionTrees, HaveBlockTrees, HaveTrees}
@@ -21,7 +22,6 @@ use Rattle.kit.specs.Meaning.{KitOperation, KitBlock}
 use Rattle.kit_ops.specs.declared.attributes.KitAttr.{KitAttr}
 use Rattle.kit_ops.specs.declared.kinds.KitOp.{KitOp}
 use Rattle.kit.specs.Says.{says}
-use Rattle.kit_writable_trees.specs.Laws.{WritableContext, WritableTree}
 use Rattle.kit_text_programs.specs.Laws.{HaveOwnNumbers}
 use Rattle.kit_text_programs.proofs.SaidFunctions.{KitPart, same_operation, same_label, same_region}
 use Rattle.kit_text_programs.proofs.SaidPrograms.{numbers_in}
@@ -37,7 +37,7 @@ use Rattle.kit_text_programs.proofs.SaidTexts.SaidMeanings.{regions_said, root_s
 abbrev KitHead : Type 0
 KitHead = ProgramHead KitOperation KitBlock
 
-module _ (number : ValueTree → ℕ) (code : TypeHandle → ℕ) (s : WritableContext) (numbering : Numbering)
+module _ (number : ValueTree → ℕ) (code : TypeHandle → ℕ) (s : KitContext) (numbering : Numbering)
     (own : HaveOwnNumbers numbering) where
   abbrev Coded : List ValueTree → Type 0
   Coded = Numbered number code s.types.keys
@@ -155,12 +155,12 @@ module _ (number : ValueTree → ℕ) (code : TypeHandle → ℕ) (s : WritableC
     regions_mean (p ∷ ps) x (an_entity (entity (operation kind results used successors pieces) us) ts) tree h n = absurd h.0
 
   -- an operation means what its text says, and names values and blocks with the numbers of the text
-  pub record IsSaidRoot (t : WritableTree) (text : Entity ℕ) : Type 0 where
+  pub record IsSaidRoot (t : KitTree) (text : Entity ℕ) : Type 0 where
     pub shape : rename_root forget (mean_root (meanings code) t) ≡ root_said number text
     pub named : Pairs (Named numbering).value (values_of (mean_root (meanings code) t)) (root_values text)
     pub blocks : Pairs (Named numbering).block (blocks_of (mean_root (meanings code) t)) (root_blocks text)
 
-  pub root_means : (text : Entity ℕ) (root : Ptr Operation) (t : WritableTree)
+  pub root_means : (text : Entity ℕ) (root : Ptr Operation) (t : KitTree)
       → HasTree says (Named numbering) HasSomeLabel (seen s) root text → StandsFor s.program root t
       → Coded (types_in_text text) → IsSaidRoot t text
   root_means (entity (operation kind results used successors pieces) us) root t h stands n =

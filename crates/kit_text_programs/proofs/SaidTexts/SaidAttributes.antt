@@ -10,9 +10,9 @@ use Rattle.ir_base.specs.declared.types.TypeHandle.{TypeHandle}
 use Rattle.ir_names.specs.Dictionary.{attribute_at}
 use Rattle.ir_names.specs.Identifier.{text_of}
 use Rattle.ir_names.specs.Tree.{node, no_tree, a_tree}
-use Rattle.ir_print.specs.Pieces.{type_of_kind, attribute_of_kind, list, item, operands, successor, region, name, number, width}
+use Rattle.ir_print.specs.Pieces.{value_of_kind, list, item, operands, successor, region, leaf}
 use Rattle.ir_print.specs.Pieces.{ValueTree, Pieces}
-use Rattle.ir_print.specs.Shown.{said_type, leaf, Pairs, ShowsAll, ShowsType}
+use Rattle.ir_print.specs.Shown.{said_type, alone, Pairs, ShowsAll, ShowsType}
 use Rattle.ir_program.specs.Program.{TypedValue}
 use Rattle.opt_trees.specs.Occurrences.{Has}
 use Rattle.text_dialect.specs.Seen.{types_of}
@@ -40,6 +40,7 @@ use Rattle.kit_text_programs.specs.SameLaws.{types_among}
 use Rattle.kit_text_programs.specs.Meanings.{Attribute, Integer, Name, OfType, Sizes, attribute_meant, number_meant}
 use Rattle.kit_text_programs.proofs.SaidTexts.AttributeMaps.{no_entries, one_at, two_at, map_one, map_two}
 use Rattle.kit_text_programs.proofs.SaidTexts.SaidMeanings.{Written, type_meant, first_number, integer_meant}
+use Rattle.ir_print.specs.declared.format.ValueSort.TheVariants as sorts
 use Rattle.kit_text_programs.proofs.SaidTexts.SaidMeanings.{attributes_said, sizes_meant}
 
 -- ---- how many attributes there are
@@ -123,16 +124,14 @@ module _ (number_of : ValueTree → ℕ) (code : TypeHandle → ℕ) (keys : Lis
 
 -- a type behind a piece is among the pieces
 behind : (t p : ValueTree) (ps : Pieces) → Has t (types_among ps) → Has t (types_among (a_tree p ps))
-behind t (node (type_of_kind n) us) ps h = inr h
-behind t (node (attribute_of_kind n) us) ps h = h
+behind t (node (value_of_kind sorts.«Type» n) us) ps h = inr h
+behind t (node (value_of_kind sorts.Attribute n) us) ps h = h
 behind t (node list us) ps h = h
 behind t (node item us) ps h = h
 behind t (node (operands n) us) ps h = h
 behind t (node (successor n) us) ps h = h
 behind t (node region us) ps h = h
-behind t (node (name cs) us) ps h = h
-behind t (node (number b m) us) ps h = h
-behind t (node (width s w) us) ps h = h
+behind t (node (leaf x) us) ps h = h
 
 -- the type that is read of a function is among its pieces
 read_among : (keys : List KitType) (ty : TypeHandle) (ps : Pieces) (t : ValueTree) → ShowsType says keys ty t
@@ -140,7 +139,7 @@ read_among : (keys : List KitType) (ty : TypeHandle) (ps : Pieces) (t : ValueTre
 read_among keys ty no_tree t shown e = absurd (none-some t e)
 read_among keys ty (a_tree p no_tree) t shown e = absurd (none-some t e)
 read_among keys ty (a_tree p (a_tree u ps)) t shown e =
-    let k = seen says keys (leaf (said_type ty)) t shown in
+    let k = seen says keys (alone (said_type ty)) t shown in
     behind t p (a_tree u ps)
     (subst (λ (z : ValueTree). Has t (types_among (a_tree z ps))) (sym (same_Some u t e ∙ k.2)) (inl k.2))
 

@@ -16,6 +16,7 @@ use Rattle.ir_trees.specs.Stands.{by_handle}
 use Rattle.ir_trees.specs.Trees.{Head, Sort, Tree, end, operation, block, region, Root}
 use Rattle.ir_trees.proofs.Alike.{alike_back, alike_on}
 use Rattle.ir_trees.proofs.Renamed.{operation_names_renamed}
+use Rattle.kit.specs.Context.{KitContext, KitTree}
 use Rattle.opt_meanings.specs.Meanings.{mean, mean_root}
 use Rattle.opt_trees.specs.Occurrences.{Has}
 use Rattle.text_dialect.specs.Seen.{seen}
@@ -23,7 +24,6 @@ use Rattle.text_rereading.specs.Rereading.{Named}
 use Rattle.kit_ruled_views.specs.Ruled.{HasOwnNames}
 use Rattle.kit.specs.Says.{says}
 use Rattle.kit_views.specs.Reading.{kit_contents}
-use Rattle.kit_writable_trees.specs.Laws.{WritableContext, WritableTree}
 use Rattle.kit_text_programs.proofs.SaidFunctions.{KitPart}
 use Rattle.kit_text_programs.proofs.Unlabelled.{unlabelled_tree}
 use Rattle.kit_text_programs.specs.SameLaws.{types_of_head, types_in_text, types_in_texts, StandsAs, HaveTextNumbers}
@@ -77,14 +77,14 @@ module _ (code : TypeHandle → ℕ) where
   names_meant (region bs rest) = both_named meant_name head_name (heads_in (meant bs)) (heads_in (meant rest))
       (heads_in bs) (heads_in rest) (names_meant bs) (names_meant rest)
 
-  root_names : (t : WritableTree) → operation_names (mean_root (meanings code) t) ≡ operation_names t
+  root_names : (t : KitTree) → operation_names (mean_root (meanings code) t) ≡ operation_names t
   root_names t = let inside = names_meant t.regions in λ i. t.head.name ∷ inside i
 
 -- ---- the law
 
 module _ (number : ValueTree → ℕ) where
   -- what stands for a text means what the text says without its labels
-  stands_said : (code : TypeHandle → ℕ) (text : Entity ℕ) (s : WritableContext) (root : Ptr Operation) (t : WritableTree)
+  stands_said : (code : TypeHandle → ℕ) (text : Entity ℕ) (s : KitContext) (root : Ptr Operation) (t : KitTree)
       (a : StandsAs text s root t) → HaveTextNumbers number code s text
       → IsSaidRoot number code s a.numbering a.distinct t (unlabelled text)
   stands_said code text s root t a n =
@@ -92,7 +92,7 @@ module _ (number : ValueTree → ℕ) where
       (unlabelled_tree says (Named a.numbering) (seen s) text root a.stands) a.is_tree
       (λ h r shown has. n h r shown (subst (Has r) (unlabelled_types text) has))
 
-  module _ (code other_code : TypeHandle → ℕ) (t u : WritableTree) where
+  module _ (code other_code : TypeHandle → ℕ) (t u : KitTree) where
     abbrev here : Root by_handle sayings
     here = mean_root (meanings code) t
 

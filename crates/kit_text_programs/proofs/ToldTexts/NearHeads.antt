@@ -7,8 +7,8 @@ use Rattle.ir_forest.specs.Bare.{AreBare}
 use Rattle.ir_names.specs.Dictionary.{attribute_at}
 use Rattle.ir_names.specs.Identifier.{text_of}
 use Rattle.ir_names.specs.Tree.{no_tree, a_tree}
-use Rattle.ir_print.specs.Pieces.{operands, successor, region, name, ValueTree, Pieces, operation}
-use Rattle.ir_print.specs.Shown.{said_type, leaf, Pairs, ShowsType}
+use Rattle.ir_print.specs.Pieces.{operands, successor, region, leaf, name, ValueTree, Pieces, operation}
+use Rattle.ir_print.specs.Shown.{said_type, alone, Pairs, ShowsType}
 use Rattle.ir_program.specs.Program.{OperationView, TypedValue}
 use Rattle.ir_program.specs.declared.handles.Value as handles
 use Rattle.ir_trees.specs.Renames.{rename_defined}
@@ -90,7 +90,7 @@ first_same x y xs ys e = cc
 type_first : (keys : List KitType) (ty : TypeHandle) (r : ValueTree) (ps : Pieces) → ShowsType says keys ty r
     → Has r (types_among (a_tree r ps))
 type_first keys ty r ps h =
-    let k = seen says keys (leaf (said_type ty)) r h in
+    let k = seen says keys (alone (said_type ty)) r h in
     subst (λ (x : ValueTree). Has x (types_among (a_tree x ps))) (sym k.2) (inl refl)
 
 -- all of a list are such
@@ -113,7 +113,7 @@ module _ (keys others : List KitType) (code other : TypeHandle → ℕ) (A B : V
   told_same NamedRegion es fs n m tys us ps qs h k means count types here there =
       let names = texts_one (text_of h.0) (text_of k.0) (at_both code other (attribute_at es symbol_name)
       (attribute_at fs symbol_name) (attrs.Identifier h.0) (attrs.Identifier k.0) (means symbol_name) h.1 k.1) in
-      h.2 ∙ (ap (λ (cs : List ℕ). two (plain (name cs)) (plain region)) names ∙ sym k.2)
+      h.2 ∙ (ap (λ (cs : List ℕ). two (plain (leaf (name cs))) (plain region)) names ∙ sym k.2)
   told_same TypedRegion es fs n m tys us ps qs h k means count types here there =
       let names = texts_one (text_of h.0) (text_of k.0) (at_both code other (attribute_at es symbol_name)
       (attribute_at fs symbol_name) (attrs.Identifier h.0) (attrs.Identifier k.0) (means symbol_name) h.3 k.3) in
@@ -123,7 +123,7 @@ module _ (keys others : List KitType) (code other : TypeHandle → ℕ) (A B : V
       let b = subst (Each B) (ap types_among k.6) there in
       let one_type = apart h.1 k.1 h.2 k.2 (a h.2 (type_first keys h.1 h.2 (one (plain region)) h.5))
       (b k.2 (type_first others k.1 k.2 (one (plain region)) k.5)) h.5 k.5 codes in
-      h.6 ∙ ((λ i. a_tree (plain (name (names i))) (two (one_type i) (plain region))) ∙ sym k.6)
+      h.6 ∙ ((λ i. a_tree (plain (leaf (name (names i)))) (two (one_type i) (plain region))) ∙ sym k.6)
   told_same Value es fs n m tys us ps qs h k means count types here there =
       let same : number_meant code h.0 ≡ number_meant other k.0 = integers_one (number_meant code h.0)
       (number_meant other k.0) (at_both code other (attribute_at es constant_value)
@@ -151,7 +151,7 @@ module _ (keys others : List KitType) (code other : TypeHandle → ℕ) (A B : V
       let b = subst (Each B) (ap types_among k.6) there in
       let one_type = apart h.1 k.1 h.2 k.2 (a h.2 (type_first keys h.1 h.2 no_tree h.5))
       (b k.2 (type_first others k.1 k.2 no_tree k.5)) h.5 k.5 codes in
-      h.6 ∙ ((λ i. a_tree (plain (name (names i))) (two (plain (operands (count i))) (one_type i))) ∙ sym k.6)
+      h.6 ∙ ((λ i. a_tree (plain (leaf (name (names i)))) (two (plain (operands (count i))) (one_type i))) ∙ sym k.6)
   told_same Edge es fs n m tys us ps qs h k means count types here there =
       h ∙ (ap (λ (i : ℕ). one (plain (successor i))) count ∙ sym k)
   told_same ConditionEdges es fs n m tys us ps qs h k means count types here there =

@@ -4,12 +4,12 @@ use Rattle.ir_base.specs.declared.types.TypeHandle.{TypeHandle}
 use Rattle.ir_forest.specs.Bare.{AreBareTrees}
 use Rattle.ir_print.specs.Pieces.{ValueTree, Entities}
 use Rattle.ir_print.specs.Pieces as written
+use Rattle.kit.specs.Context.{KitContext}
 use Rattle.text_rereading.specs.Rereading.{Numbering}
 use Rattle.ir_trees.specs.Renames.{no_names, forget, rename}
 use Rattle.ir_trees.specs.Trees.{Head, Label, Sort, Operations, Blocks, Regions, Tree, end, operation, block, region}
 use Rattle.opt_meanings.specs.Meanings.{mean}
 use Rattle.opt_trees.proofs.NoneDead.{has-left, has-right}
-use Rattle.kit_writable_trees.specs.Laws.{WritableContext}
 use Rattle.kit_text_programs.proofs.SaidFunctions.{KitPart}
 use Rattle.kit_text_programs.specs.SameLaws.{types_of_head, types_in_texts}
 use Rattle.kit_text_programs.specs.Meanings.{sayings, meanings}
@@ -92,7 +92,7 @@ back P xs ys a r is = a r (has-right r xs ys is)
 
 -- ---- trees
 
-module _ (s z : WritableContext) (numbering others : Numbering) (code other : TypeHandle → ℕ) (A B : ValueTree → Type 0)
+module _ (s z : KitContext) (numbering others : Numbering) (code other : TypeHandle → ℕ) (A B : ValueTree → Type 0)
     (apart : AreApart s.types.keys z.types.keys code other A B) where
   -- texts of parts of one shape are the same but for labels and numbers
   pub texts_near : (k : Sort) (x y : KitPart k) (ts us : Entities ℕ) → AreSaid s numbering k x ts → AreSaid z others k y us

@@ -14,6 +14,7 @@ use Rattle.ir_trees.specs.Renames.{names_of, values_in, values_of, blocks_in, bl
 use Rattle.ir_trees.specs.Stands.{defined_by, head_of}
 use Rattle.ir_trees.specs.Trees.{Regions, Root}
 use Rattle.ir_trees.specs.Renames.{no_names}
+use Rattle.kit.specs.Context.{KitContext, KitTree}
 use Rattle.opt_meanings.specs.Meanings.{mean, mean_defined, mean_root}
 use Rattle.opt_trees.proofs.NoneDead.{has-left, has-right}
 use Rattle.opt_trees.specs.Occurrences.{Has}
@@ -25,7 +26,6 @@ use Rattle.kit_language.specs.Language.{kit_language}
 use Rattle.kit_ops.specs.declared.attributes.KitAttr.{KitAttr}
 use Rattle.kit_ops.specs.declared.kinds.KitOp.{KitOp}
 use Rattle.kit.specs.Says.{says}
-use Rattle.kit_writable_trees.specs.Laws.{WritableContext, WritableTree}
 use Rattle.kit_text_programs.proofs.SaidFunctions.{same_operation}
 use Rattle.kit_text_programs.specs.SameLaws.{HaveTextNumbers, NumbersApart, SayTheSame, StandsAs, TheSameSayOneText}
 use Rattle.kit_text_programs.specs.SameLaws.{types_in_texts, types_of_head, types_in_text}
@@ -41,14 +41,14 @@ use Rattle.kit_text_programs.proofs.ToldTexts.SideBySide.{pairs_parts}
 
 -- ---- one root
 
-module _ {s : WritableContext} {root : Ptr Operation} {t : WritableTree} {kind : ℕ} {results : Definitions} {used successors : List ℕ}
+module _ {s : KitContext} {root : Ptr Operation} {t : KitTree} {kind : ℕ} {results : Definitions} {used successors : List ℕ}
     {pieces : Pieces} {ts : Entities ℕ} (h : StandsAs (entity (operation kind results used successors pieces) ts) s root t) where
   -- what the handle leads to
   abbrev view : OperationView KitOperation
   view = h.is_tree.view
 
   -- the tree, by what its handle leads to
-  abbrev plain_root : WritableTree
+  abbrev plain_root : KitTree
   plain_root = record { head = head_of root view; regions = t.regions }
 
   -- it is that tree
@@ -89,8 +89,8 @@ module _ {s : WritableContext} {root : Ptr Operation} {t : WritableTree} {kind :
 
 -- ---- two roots
 
-module _ (number : ValueTree → ℕ) (code other_code : TypeHandle → ℕ) (s z : WritableContext) (root there : Ptr Operation)
-    (t u : WritableTree) (kind kind_there : ℕ) (results again : Definitions) (used taken successors going : List ℕ) (pieces said : Pieces)
+module _ (number : ValueTree → ℕ) (code other_code : TypeHandle → ℕ) (s z : KitContext) (root there : Ptr Operation)
+    (t u : KitTree) (kind kind_there : ℕ) (results again : Definitions) (used taken successors going : List ℕ) (pieces said : Pieces)
     (ts us : Entities ℕ) where
   -- the first text
   abbrev text : Entity ℕ

@@ -15,6 +15,7 @@ use Rattle.ir_trees.specs.Stands.{head_of, label_of, defined_by, AreTree, first_
 use Rattle.ir_trees.specs.Stands as stands
 use Rattle.ir_trees.specs.Trees.{Sort, Operations, Blocks, Regions, end}
 use Rattle.ir_trees.specs.Trees as trees
+use Rattle.kit.specs.Context.{KitContext}
 use Rattle.opt_meanings.specs.Meanings.{mean, mean_defined}
 use Rattle.text_dialect.specs.Seen.{SeenOperation, SeenBlock, seen, seen_operation, seen_block}
 use Rattle.text_dialect.specs.Standing.{HasDefinition, HasHead, HasOwnLabel, HaveRegionTrees, HaveBlockTrees, HaveTrees}
@@ -23,14 +24,13 @@ use Rattle.kit.specs.Meaning.{KitOperation, KitBlock}
 use Rattle.kit_ops.specs.declared.attributes.KitAttr.{KitAttr}
 use Rattle.kit_ops.specs.declared.kinds.KitOp.{KitOp}
 use Rattle.kit.specs.Says.{says}
-use Rattle.kit_writable_trees.specs.Laws.{WritableContext}
 use Rattle.kit_text_programs.specs.Laws.{HaveOwnNumbers}
 use Rattle.kit_text_programs.proofs.SaidFunctions.{KitPart, same_operation, same_label, same_region}
 use Rattle.kit_text_programs.specs.Meanings.{meanings}
 use Rattle.kit_text_programs.proofs.ToldTexts.SideBySide.{pairs_parts, three_lists}
 use Rattle.kit_text_programs.proofs.ToldTexts.Near.{Definitions, all_numbers, all_blocks_named}
 
-module _ (s : WritableContext) (numbering : Numbering) where
+module _ (s : KitContext) (numbering : Numbering) where
   -- a part of a tree is what these texts say
   pub data AreSaid : (k : Sort) → KitPart k → Entities ℕ → Type 0 where
     no_operations : AreSaid Operations end no_entity

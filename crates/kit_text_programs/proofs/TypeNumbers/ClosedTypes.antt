@@ -4,7 +4,7 @@ use Rattle.std.proofs.Common.{subst}
 use Rattle.ir_forest.specs.Bare.{IsBare, AreBare, AreBareArguments, IsBareTree, AreBareTrees}
 use Rattle.ir_forest.specs.Closed.{IsClosedTree, IsOperation, AreRegions, IsRegion, AreBlocks, IsBlock, AreOperations}
 use Rattle.ir_names.specs.Tree.{node, no_tree, a_tree}
-use Rattle.ir_print.specs.Pieces.{type_of_kind, attribute_of_kind, list, item, operands, successor, region, name, number, width}
+use Rattle.ir_print.specs.Pieces.{value_of_kind, list, item, operands, successor, region, leaf, name, number, width}
 use Rattle.ir_print.specs.Pieces.{ValueTree, Pieces, operation, a_region, block, Entity, entity, Entities, no_entity}
 use Rattle.ir_print.specs.Pieces.{an_entity}
 use Rattle.kit_language.specs.Language.{kit_language}
@@ -15,6 +15,7 @@ use Rattle.kit.specs.Says.{call_types, result_types_in}
 use Rattle.kit.specs.Says.{result_types_by}
 use Rattle.opt_trees.specs.Occurrences.{Has}
 use Rattle.opt_trees.proofs.NoneDead.{has-append}
+use Rattle.ir_print.specs.declared.format.ValueSort.TheVariants as sorts
 use Rattle.kit_text_programs.specs.SameLaws.{types_among, types_in_text, types_in_texts}
 
 -- each of these is bare
@@ -31,49 +32,44 @@ one_bare t b r (inr h) = absurd h
 -- types among pieces
 among_bare : (ts : Pieces) → AreBare ts → AllBare (types_among ts)
 among_bare no_tree b r h = absurd h
-among_bare (a_tree (node (type_of_kind n) us) ts) b r (inl e) = subst IsBare (sym e) b.0
-among_bare (a_tree (node (type_of_kind n) us) ts) b r (inr h) = among_bare ts b.1 r h
-among_bare (a_tree (node (attribute_of_kind n) us) ts) b r h = among_bare ts b.1 r h
+among_bare (a_tree (node (value_of_kind sorts.«Type» n) us) ts) b r (inl e) = subst IsBare (sym e) b.0
+among_bare (a_tree (node (value_of_kind sorts.«Type» n) us) ts) b r (inr h) = among_bare ts b.1 r h
+among_bare (a_tree (node (value_of_kind sorts.Attribute n) us) ts) b r h = among_bare ts b.1 r h
 among_bare (a_tree (node list us) ts) b r h = among_bare ts b.1 r h
 among_bare (a_tree (node item us) ts) b r h = among_bare ts b.1 r h
 among_bare (a_tree (node (operands n) us) ts) b r h = among_bare ts b.1 r h
 among_bare (a_tree (node (successor n) us) ts) b r h = among_bare ts b.1 r h
 among_bare (a_tree (node region us) ts) b r h = among_bare ts b.1 r h
-among_bare (a_tree (node (name cs) us) ts) b r h = among_bare ts b.1 r h
-among_bare (a_tree (node (number m n) us) ts) b r h = among_bare ts b.1 r h
-among_bare (a_tree (node (width s n) us) ts) b r h = among_bare ts b.1 r h
+among_bare (a_tree (node (leaf x) us) ts) b r h = among_bare ts b.1 r h
 
 -- the type of an integer, and of a constant
 integer_bare : (ts : Pieces) → AllBare (integer_types ts)
 integer_bare no_tree r h = absurd h
 integer_bare (a_tree t no_tree) r h = absurd h
-integer_bare (a_tree t (a_tree (node (width s w) us) no_tree)) r (inl e) = subst IsBare (sym e) (refl, tt)
-integer_bare (a_tree t (a_tree (node (width s w) us) no_tree)) r (inr h) = absurd h
-integer_bare (a_tree t (a_tree (node (width s w) us) (a_tree v ts))) r h = absurd h
-integer_bare (a_tree t (a_tree (node (attribute_of_kind n) us) ts)) r h = absurd h
-integer_bare (a_tree t (a_tree (node (type_of_kind n) us) ts)) r h = absurd h
+integer_bare (a_tree t (a_tree (node (leaf (width s w)) us) no_tree)) r (inl e) = subst IsBare (sym e) (refl, tt)
+integer_bare (a_tree t (a_tree (node (leaf (width s w)) us) no_tree)) r (inr h) = absurd h
+integer_bare (a_tree t (a_tree (node (leaf (width s w)) us) (a_tree v ts))) r h = absurd h
+integer_bare (a_tree t (a_tree (node (value_of_kind sort n) us) ts)) r h = absurd h
 integer_bare (a_tree t (a_tree (node list us) ts)) r h = absurd h
 integer_bare (a_tree t (a_tree (node item us) ts)) r h = absurd h
 integer_bare (a_tree t (a_tree (node (operands n) us) ts)) r h = absurd h
 integer_bare (a_tree t (a_tree (node (successor n) us) ts)) r h = absurd h
 integer_bare (a_tree t (a_tree (node region us) ts)) r h = absurd h
-integer_bare (a_tree t (a_tree (node (name cs) us) ts)) r h = absurd h
-integer_bare (a_tree t (a_tree (node (number m n) us) ts)) r h = absurd h
+integer_bare (a_tree t (a_tree (node (leaf (name cs)) us) ts)) r h = absurd h
+integer_bare (a_tree t (a_tree (node (leaf (number m n)) us) ts)) r h = absurd h
 
 constant_bare : (ts : Pieces) → AllBare (constant_types ts)
 constant_bare no_tree r h = absurd h
-constant_bare (a_tree (node (attribute_of_kind zero) us) no_tree) r h = integer_bare us r h
-constant_bare (a_tree (node (attribute_of_kind zero) us) (a_tree t ts)) r h = absurd h
-constant_bare (a_tree (node (attribute_of_kind (suc n)) us) ts) r h = absurd h
-constant_bare (a_tree (node (type_of_kind n) us) ts) r h = absurd h
+constant_bare (a_tree (node (value_of_kind sorts.Attribute zero) us) no_tree) r h = integer_bare us r h
+constant_bare (a_tree (node (value_of_kind sorts.Attribute zero) us) (a_tree t ts)) r h = absurd h
+constant_bare (a_tree (node (value_of_kind sorts.Attribute (suc n)) us) ts) r h = absurd h
+constant_bare (a_tree (node (value_of_kind sorts.«Type» n) us) ts) r h = absurd h
 constant_bare (a_tree (node list us) ts) r h = absurd h
 constant_bare (a_tree (node item us) ts) r h = absurd h
 constant_bare (a_tree (node (operands n) us) ts) r h = absurd h
 constant_bare (a_tree (node (successor n) us) ts) r h = absurd h
 constant_bare (a_tree (node region us) ts) r h = absurd h
-constant_bare (a_tree (node (name cs) us) ts) r h = absurd h
-constant_bare (a_tree (node (number m n) us) ts) r h = absurd h
-constant_bare (a_tree (node (width s n) us) ts) r h = absurd h
+constant_bare (a_tree (node (leaf x) us) ts) r h = absurd h
 
 -- the type that pieces of two operands and a type end with
 pair_bare : (ts : Pieces) → AreBare ts → AllBare (pair_types ts)
@@ -92,17 +88,14 @@ members_bare (a_tree (node item (a_tree t no_tree)) ts) b r (inr h) = members_ba
 members_bare (a_tree (node item no_tree) ts) b r h = members_bare ts b.1 r h
 members_bare (a_tree (node item (a_tree t (a_tree u us))) ts) b r h = members_bare ts b.1 r h
 members_bare (a_tree (node list us) ts) b r h = members_bare ts b.1 r h
-members_bare (a_tree (node (attribute_of_kind n) us) ts) b r h = members_bare ts b.1 r h
-members_bare (a_tree (node (type_of_kind n) us) ts) b r h = members_bare ts b.1 r h
+members_bare (a_tree (node (value_of_kind sort n) us) ts) b r h = members_bare ts b.1 r h
 members_bare (a_tree (node (operands n) us) ts) b r h = members_bare ts b.1 r h
 members_bare (a_tree (node (successor n) us) ts) b r h = members_bare ts b.1 r h
 members_bare (a_tree (node region us) ts) b r h = members_bare ts b.1 r h
-members_bare (a_tree (node (name cs) us) ts) b r h = members_bare ts b.1 r h
-members_bare (a_tree (node (number m n) us) ts) b r h = members_bare ts b.1 r h
-members_bare (a_tree (node (width s n) us) ts) b r h = members_bare ts b.1 r h
+members_bare (a_tree (node (leaf x) us) ts) b r h = members_bare ts b.1 r h
 
 returned_bare : (t : ValueTree) → IsBare t → AllBare (types_returned t)
-returned_bare (node (type_of_kind (suc zero)) (a_tree t (a_tree (node list us) no_tree))) b r h =
+returned_bare (node (value_of_kind sorts.«Type» (suc zero)) (a_tree t (a_tree (node list us) no_tree))) b r h =
     members_bare us b.1.0 r h
 returned_bare _ b r h = absurd h
 
@@ -118,7 +111,7 @@ results_in_bare NamedRegion ts b r h = absurd h
 results_in_bare TypedRegion ts b r h = absurd h
 results_in_bare OneOperand ts b r h = absurd h
 results_in_bare AnyOperands ts b r h = absurd h
-results_in_bare Empty ts b r h = one_bare (node (type_of_kind 2) no_tree) tt r h
+results_in_bare Empty ts b r h = one_bare (node (value_of_kind sorts.«Type» 2) no_tree) tt r h
 results_in_bare Called ts b r h = call_bare ts b r h
 results_in_bare Edge ts b r h = absurd h
 results_in_bare ConditionEdges ts b r h = absurd h

@@ -3,18 +3,18 @@ use Rattle.std.proofs.Common.{◌≡◌, inl, inr, ℕ, List, [], ◌∷◌, ◌
 use Rattle.ir_base.specs.declared.types.TypeHandle.{TypeHandle}
 use Rattle.ir_forest.specs.Bare.{IsBare}
 use Rattle.ir_print.specs.Pieces.{ValueTree, Entity}
-use Rattle.ir_print.specs.Shown.{said_type, leaf, Pairs, ShowsType}
+use Rattle.ir_print.specs.Shown.{said_type, alone, Pairs, ShowsType}
 use Rattle.ir_program.specs.declared.handles.Operation.{Operation}
 use Rattle.ir_program.specs.declared.handles.Ptr.{Ptr}
 use Rattle.ir_types.specs.Interned.{key_at}
 use Rattle.ir_types.specs.Views.{TypesView}
+use Rattle.kit.specs.Context.{KitContext, KitTree}
 use Rattle.kit_text_programs.specs.RuleLaws.{HasOneHandleEach}
 use Rattle.kit_text_programs.proofs.SameTypes.{type_same, lists_meet}
 use Rattle.kit_text_programs.proofs.WrittenTypes.{own_handles}
 use Rattle.kit.specs.declared.dialect.Unused.{Unused}
 use Rattle.kit_ops.specs.declared.types.KitType.{KitType}
 use Rattle.kit.specs.Says.{says}
-use Rattle.kit_writable_trees.specs.Laws.{WritableContext, WritableTree}
 use Rattle.opt_meanings.specs.Meanings.{Bijection}
 use Rattle.opt_meanings.proofs.Permuted.{Permutation, permutation}
 use Rattle.opt_trees.specs.Occurrences.{Has}
@@ -50,7 +50,7 @@ pairs_within R P (x ∷ xs) [] h k = absurd h
 pairs_within R P (x ∷ xs) (y ∷ ys) h k =
     ((h.0, k y (inl refl)), pairs_within R P xs ys h.1 (λ z m. k z (inr m)))
 
-module _ (s : WritableContext) (own : HasOneHandleEach s) where
+module _ (s : KitContext) (own : HasOneHandleEach s) where
   abbrev Shows : TypeHandle → ValueTree → Type 0
   Shows = ShowsType says s.types.keys
 
@@ -86,7 +86,7 @@ module _ (s : WritableContext) (own : HasOneHandleEach s) where
     number_once : (a b : TypeHandle) (c d : ValueTree) → Stands a c → Stands b d → a.number ≡ b.number → number c ≡ number d
     number_once a b c d h k e =
         let handles : a ≡ b = λ i. record { number = e i } in
-        ap number (one_text says s.types.keys c d (leaf (said_type b)) (subst (λ x. Shows x c) handles h.0) k.0 (bare c h.1) (bare d k.1))
+        ap number (one_text says s.types.keys c d (alone (said_type b)) (subst (λ x. Shows x c) handles h.0) k.0 (bare c h.1) (bare d k.1))
 
     -- a number is one handle's
     handle_once : (a b : TypeHandle) (c d : ValueTree) → Stands a c → Stands b d → number c ≡ number d → a.number ≡ b.number
@@ -106,7 +106,7 @@ module _ (s : WritableContext) (own : HasOneHandleEach s) where
         (handle_numbers f.0, λ h r shown has. numbered_so number f.0.fun handles.0 rs handles.1 f.1 h r shown has)
 
     -- so can those of two contexts with the same types in which operations stand for texts of such types
-    pub types_numbered : (z : WritableContext) (text other : Entity ℕ) (root there : Ptr Operation) (t u : WritableTree) →
+    pub types_numbered : (z : KitContext) (text other : Entity ℕ) (root there : Ptr Operation) (t u : KitTree) →
         z.types ≡ s.types → StandsAs text s root t → StandsAs other z there u →
         ((r : ValueTree) → Has r (types_in_text text ++ types_in_text other) → Has r all) →
         (codes : Bijection TypeHandle ℕ) × HaveTextNumbers number codes.to s text × HaveTextNumbers number codes.to z other

@@ -2,7 +2,7 @@
 use Rattle.std.proofs.Common.{ℕ, List, [], ◌∷◌, ◌++◌, map, refl}
 use Rattle.ir_base.specs.declared.types.TypeHandle.{TypeHandle}
 use Rattle.ir_names.specs.Tree.{Trees, node, no_tree, a_tree}
-use Rattle.ir_print.specs.Pieces.{type_of_kind, Pieces, ValueTree, operation, a_region, block, Entity, entity}
+use Rattle.ir_print.specs.Pieces.{value_of_kind, Pieces, ValueTree, operation, a_region, block, Entity, entity}
 use Rattle.ir_print.specs.Pieces.{Entities, no_entity, an_entity}
 use Rattle.ir_print.specs.Shown.{Said, Saying, Pairs, ShowsAll, ShowsType}
 use Rattle.ir_program.specs.Program.{TypedValue}
@@ -13,6 +13,7 @@ use Rattle.ir_program.specs.declared.handles.Region.{Region}
 use Rattle.text_dialect.specs.Seen.{SeenBlock, Seen}
 use Rattle.text_dialect.specs.Standing.{HasDefinition, HasTree, HasRegionTree, HasBlockTree, HaveRegionTrees}
 use Rattle.text_dialect.specs.Standing.{HaveBlockTrees, HaveTrees, Naming}
+use Rattle.ir_print.specs.declared.format.ValueSort.TheVariants as sorts
 use Rattle.kit_text_programs.specs.SameLaws.{types_among, types_in_text, types_in_texts}
 
 -- pairs of the one lists, and then of the others
@@ -47,7 +48,7 @@ module _ {K A T : Type 0} (says : Saying K A T) (types : List T) where
   pieces_handles no_tree no_tree h = ([], tt)
   pieces_handles no_tree (a_tree t ts) h = absurd h
   pieces_handles (a_tree u us) no_tree h = absurd h
-  pieces_handles (a_tree u us) (a_tree (node (type_of_kind n) vs) ts) h =
+  pieces_handles (a_tree u us) (a_tree (node (value_of_kind sorts.«Type» n) vs) ts) h =
       let more = pieces_handles us ts h.1 in
       let first = h.0 in
       (first.0 ∷ more.0, ((first.0, first.1, first.2, refl, first.4, first.5, first.6), more.1))

@@ -5,10 +5,11 @@ use Rattle.std.proofs.lemmas.Option.{same_Some, some_pair_parts}
 use Rattle.ir_base.specs.declared.types.TypeHandle.{TypeHandle}
 use Rattle.ir_forest.specs.Bare.{IsBare, AreBare}
 use Rattle.ir_names.specs.Tree.{LabelledTree, Trees, node, no_tree, a_tree}
-use Rattle.ir_print.specs.Pieces.{Piece, type_of_kind, attribute_of_kind, list, item, operands, successor, region, name, number, width}
+use Rattle.ir_print.specs.Pieces.{Piece, value_of_kind, list, item, operands, successor, region, leaf}
 use Rattle.ir_print.specs.Pieces.{ValueTree, Pieces}
-use Rattle.ir_print.specs.Shown.{Said, said_type, said_attribute, said_list, said_item, said_operands, said_successor, said_region, said_name}
-use Rattle.ir_print.specs.Shown.{said_number, said_width, leaf, Saying, Shows, ShowsAll}
+use Rattle.ir_print.specs.Shown.{Said, said_type, said_attribute, said_list, said_item, said_operands, said_successor, said_region, said_leaf}
+use Rattle.ir_print.specs.Shown.{alone, Saying, Shows, ShowsAll}
+use Rattle.ir_print.specs.declared.format.ValueSort.TheVariants as sorts
 use Rattle.kit.specs.Seen.{seen}
 
 -- of one piece, with what stands below it
@@ -20,10 +21,10 @@ bare_node : (p : Piece) (ts us : Pieces) (q : ValueTree) → ts ≡ no_tree → 
 bare_node p ts us q e f g = same_node p p ts us refl (e ∙ sym g) ∙ sym f
 
 module _ {K A T : Type 0} (says : Saying K A T) (types : List T) where
-  one_type : (a c : TypeHandle) → ◌≡◌ {A = LabelledTree (Said A)} (leaf (said_type a)) (leaf (said_type c)) → a ≡ c
+  one_type : (a c : TypeHandle) → ◌≡◌ {A = LabelledTree (Said A)} (alone (said_type a)) (alone (said_type c)) → a ≡ c
   one_type a c e = cc
 
-  one_attribute : (a c : A) → ◌≡◌ {A = LabelledTree (Said A)} (leaf (said_attribute a)) (leaf (said_attribute c)) → a ≡ c
+  one_attribute : (a c : A) → ◌≡◌ {A = LabelledTree (Said A)} (alone (said_attribute a)) (alone (said_attribute c)) → a ≡ c
   one_attribute a c e = cc
 
   -- what the key under a handle says it says once
@@ -53,20 +54,20 @@ module _ {K A T : Type 0} (says : Saying K A T) (types : List T) where
   mutual
     -- what is said has one text
     pub one_text : (r q : ValueTree) (x : LabelledTree (Said A)) → Shows says types x r → Shows says types x q → IsBare r → IsBare q → r ≡ q
-    one_text (node (type_of_kind n) ts) q x (a, key, us, e, at, h, all) k b c =
-        let other = seen says types (leaf (said_type a)) q (shown_as x (leaf (said_type a)) q e k) in
+    one_text (node (value_of_kind sorts.«Type» n) ts) q x (a, key, us, e, at, h, all) k b c =
+        let other = seen says types (alone (said_type a)) q (shown_as x (alone (said_type a)) q e k) in
         let z = other.3 in
         let once = type_once a z.0 key z.1 n other.0 us z.2 (one_type a z.0 z.3) at z.4 h z.5 in
         let inside = pieces_once ts other.1 us all (all_shown_as us z.2 other.1 once.1 z.6) b
-        (bare_as q (node (type_of_kind other.0) other.1) other.2 c) in
-        same_node (type_of_kind n) (type_of_kind other.0) ts other.1 (ap type_of_kind once.0) inside ∙ sym other.2
-    one_text (node (attribute_of_kind n) ts) q x (a, us, e, h, all) k b c =
-        let other = seen says types (leaf (said_attribute a)) q (shown_as x (leaf (said_attribute a)) q e k) in
+        (bare_as q (node (value_of_kind sorts.«Type» other.0) other.1) other.2 c) in
+        same_node (value_of_kind sorts.«Type» n) (value_of_kind sorts.«Type» other.0) ts other.1 (ap (value_of_kind sorts.«Type») once.0) inside ∙ sym other.2
+    one_text (node (value_of_kind sorts.Attribute n) ts) q x (a, us, e, h, all) k b c =
+        let other = seen says types (alone (said_attribute a)) q (shown_as x (alone (said_attribute a)) q e k) in
         let z = other.3 in
         let once = attribute_once a z.0 n other.0 us z.1 (one_attribute a z.0 z.2) h z.3 in
         let inside = pieces_once ts other.1 us all (all_shown_as us z.1 other.1 once.1 z.4) b
-        (bare_as q (node (attribute_of_kind other.0) other.1) other.2 c) in
-        same_node (attribute_of_kind n) (attribute_of_kind other.0) ts other.1 (ap attribute_of_kind once.0) inside ∙ sym other.2
+        (bare_as q (node (value_of_kind sorts.Attribute other.0) other.1) other.2 c) in
+        same_node (value_of_kind sorts.Attribute n) (value_of_kind sorts.Attribute other.0) ts other.1 (ap (value_of_kind sorts.Attribute) once.0) inside ∙ sym other.2
     one_text (node list ts) q x (us, e, all) k b c =
         let other = seen says types (node said_list us) q (shown_as x (node said_list us) q e k) in
         let inside = pieces_once ts other.0 us all other.2 b (bare_as q (node list other.0) other.1 c) in
@@ -76,23 +77,17 @@ module _ {K A T : Type 0} (says : Saying K A T) (types : List T) where
         let inside = pieces_once ts other.0 us all other.2 b (bare_as q (node item other.0) other.1 c) in
         same_node item item ts other.0 refl inside ∙ sym other.1
     one_text (node (operands n) ts) q x e k b c =
-        let other = seen says types (leaf (said_operands n)) q (shown_as x (leaf (said_operands n)) q e k) in
+        let other = seen says types (alone (said_operands n)) q (shown_as x (alone (said_operands n)) q e k) in
         bare_node (operands n) ts other.0 q b other.1 (bare_as q (node (operands n) other.0) other.1 c)
     one_text (node (successor n) ts) q x e k b c =
-        let other = seen says types (leaf (said_successor n)) q (shown_as x (leaf (said_successor n)) q e k) in
+        let other = seen says types (alone (said_successor n)) q (shown_as x (alone (said_successor n)) q e k) in
         bare_node (successor n) ts other.0 q b other.1 (bare_as q (node (successor n) other.0) other.1 c)
     one_text (node region ts) q x e k b c =
-        let other = seen says types (leaf said_region) q (shown_as x (leaf said_region) q e k) in
+        let other = seen says types (alone said_region) q (shown_as x (alone said_region) q e k) in
         bare_node region ts other.0 q b other.1 (bare_as q (node region other.0) other.1 c)
-    one_text (node (name cs) ts) q x e k b c =
-        let other = seen says types (leaf (said_name cs)) q (shown_as x (leaf (said_name cs)) q e k) in
-        bare_node (name cs) ts other.0 q b other.1 (bare_as q (node (name cs) other.0) other.1 c)
-    one_text (node (number f m) ts) q x e k b c =
-        let other = seen says types (leaf (said_number f m)) q (shown_as x (leaf (said_number f m)) q e k) in
-        bare_node (number f m) ts other.0 q b other.1 (bare_as q (node (number f m) other.0) other.1 c)
-    one_text (node (width f m) ts) q x e k b c =
-        let other = seen says types (leaf (said_width f m)) q (shown_as x (leaf (said_width f m)) q e k) in
-        bare_node (width f m) ts other.0 q b other.1 (bare_as q (node (width f m) other.0) other.1 c)
+    one_text (node (leaf l) ts) q x e k b c =
+        let other = seen says types (alone (said_leaf l)) q (shown_as x (alone (said_leaf l)) q e k) in
+        bare_node (leaf l) ts other.0 q b other.1 (bare_as q (node (leaf l) other.0) other.1 c)
 
     -- and so have pieces
     pieces_once : (ts qs : Pieces) (us : Trees (Said A)) → ShowsAll says types us ts → ShowsAll says types us qs → AreBare ts →

@@ -3,7 +3,9 @@ use Rattle.std.proofs.Common.{◌≡◌, ◌≢◌, ◌⊎◌, inl, inr, ℕ, ze
 use Rattle.ir_names.specs.declared.kinds.Signedness.{Signedness}
 use Rattle.ir_names.specs.declared.kinds.Signedness.TheVariants.{Signless, Signed, Unsigned}
 use Rattle.ir_names.specs.Tree.{node, no_tree, a_tree}
-use Rattle.ir_print.specs.Pieces.{Piece, type_of_kind, attribute_of_kind, list, item, operands, successor, region, name, number, width}
+use Rattle.ir_print.specs.declared.format.ValueSort.{ValueSort}
+use Rattle.ir_print.specs.declared.format.ValueSort.TheVariants as sorts
+use Rattle.ir_print.specs.Pieces.{Leaf, name, number, width, Piece, value_of_kind, list, item, operands, successor, region, leaf}
 use Rattle.ir_print.specs.Pieces.{ValueTree, Pieces}
 
 -- two of these are the same or not
@@ -52,12 +54,27 @@ sign_test Signed _ = inr (λ e. cc)
 sign_test Unsigned Unsigned = inl refl
 sign_test Unsigned _ = inr (λ e. cc)
 
+-- sorts of values
+sort_test : (s t : ValueSort) → Tested s t
+sort_test sorts.«Type» sorts.«Type» = inl refl
+sort_test sorts.«Type» sorts.Attribute = inr (λ e. cc)
+sort_test sorts.Attribute sorts.«Type» = inr (λ e. cc)
+sort_test sorts.Attribute sorts.Attribute = inl refl
+
+-- leaves
+leaf_test : (x y : Leaf) → Tested x y
+leaf_test (name ms) (name ns) = by_part name ms ns (λ e. cc) (numbers_test ms ns)
+leaf_test (name ms) _ = inr (λ e. cc)
+leaf_test (number b m) (number c n) = by_parts number b c m n (λ e. cc) (λ e. cc) (flag_test b c) (number_test m n)
+leaf_test (number b m) _ = inr (λ e. cc)
+leaf_test (width s m) (width t n) = by_parts width s t m n (λ e. cc) (λ e. cc) (sign_test s t) (number_test m n)
+leaf_test (width s m) _ = inr (λ e. cc)
+
 -- pieces
 piece_test : (p q : Piece) → Tested p q
-piece_test (type_of_kind m) (type_of_kind n) = by_part type_of_kind m n (λ e. cc) (number_test m n)
-piece_test (type_of_kind m) _ = inr (λ e. cc)
-piece_test (attribute_of_kind m) (attribute_of_kind n) = by_part attribute_of_kind m n (λ e. cc) (number_test m n)
-piece_test (attribute_of_kind m) _ = inr (λ e. cc)
+piece_test (value_of_kind s m) (value_of_kind t n) =
+    by_parts value_of_kind s t m n (λ e. cc) (λ e. cc) (sort_test s t) (number_test m n)
+piece_test (value_of_kind s m) _ = inr (λ e. cc)
 piece_test list list = inl refl
 piece_test list _ = inr (λ e. cc)
 piece_test item item = inl refl
@@ -68,12 +85,8 @@ piece_test (successor m) (successor n) = by_part successor m n (λ e. cc) (numbe
 piece_test (successor m) _ = inr (λ e. cc)
 piece_test region region = inl refl
 piece_test region _ = inr (λ e. cc)
-piece_test (name ms) (name ns) = by_part name ms ns (λ e. cc) (numbers_test ms ns)
-piece_test (name ms) _ = inr (λ e. cc)
-piece_test (number b m) (number c n) = by_parts number b c m n (λ e. cc) (λ e. cc) (flag_test b c) (number_test m n)
-piece_test (number b m) _ = inr (λ e. cc)
-piece_test (width s m) (width t n) = by_parts width s t m n (λ e. cc) (λ e. cc) (sign_test s t) (number_test m n)
-piece_test (width s m) _ = inr (λ e. cc)
+piece_test (leaf x) (leaf y) = by_part leaf x y (λ e. cc) (leaf_test x y)
+piece_test (leaf x) _ = inr (λ e. cc)
 
 mutual
   -- texts

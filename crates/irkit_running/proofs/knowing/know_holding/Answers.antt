@@ -2,9 +2,10 @@ use Rattle.std.proofs.Common.{subst}
 use Rattle.ir_program.specs.Program.{Program}
 use Rattle.ir_trees.specs.Stands.{StandsFor}
 use Rattle.ir_types.specs.Interned.{HasDistinctTypes}
+use Rattle.kit.specs.Context.{KitTree}
 use Rattle.kit.specs.Meaning.{KitOperation, KitBlock}
 use Rattle.kit_ops.specs.contracts.types.KitTypePartialEq.TheImpl as of_types
-use Rattle.kit_ruled_views.specs.Ruled.{HasOwnNames, KitTree}
+use Rattle.kit_ruled_views.specs.Ruled.{HasOwnNames}
 use Rattle.kit_text_programs.proofs.BlockNumbers.{own_numbers, stands_with_own_blocks, with_own_blocks}
 use Rattle.irkit_running.proofs.HoldingLemmas.{AreTypedAtDefiners, written_types}
 use Rattle.irkit_running.proofs.knowing.know_holding.Goals as goal

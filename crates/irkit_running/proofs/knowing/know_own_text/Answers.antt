@@ -3,8 +3,8 @@ use Rattle.ir_program.specs.Program.{Program, IsLiveValue}
 use Rattle.ir_program.specs.Lists.{itself}
 use Rattle.ir_program.specs.declared.handles.Value.{Value}
 use Rattle.ir_trees.specs.Stands.{StandsFor}
+use Rattle.kit.specs.Context.{KitTree}
 use Rattle.kit.specs.Meaning.{KitOperation, KitBlock}
-use Rattle.kit_ruled_views.specs.Ruled.{KitTree}
 use Rattle.opt_inside.proofs.Around.{HasLists}
 use Rattle.opt_inside.proofs.Values.{defined}
 use Rattle.opt_trees.specs.Occurrences.{Has, defined_in}

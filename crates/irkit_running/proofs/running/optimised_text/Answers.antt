@@ -3,9 +3,9 @@ use Rattle.std.specs.String.{string_bytes}
 use Rattle.ir_base.specs.declared.growth.GrowError.TheVariants as grow
 use Rattle.ir_program.specs.Program.{Program, operation_at}
 use Rattle.ir_trees.specs.Stands.{StandsFor}
+use Rattle.kit.specs.Context.{KitTree}
 use Rattle.kit.specs.Meaning.{KitOperation, KitBlock}
 use Rattle.kit_optimiser.specs.Passed.{pass_of}
-use Rattle.kit_ruled_views.specs.Ruled.{KitTree}
 use Rattle.irkit_running.proofs.PassLemmas.{refused, stays_writable}
 use Rattle.irkit_running.proofs.ReadLemmas.{at_error}
 use Rattle.irkit_running.specs.Lists.{EndsPasses}

@@ -3,11 +3,12 @@ use Rattle.ir_program.specs.Program.{arguments_at}
 use Rattle.ir_program.specs.Lists.{operations_in}
 use Rattle.ir_program.specs.Replacing.{same_value}
 use Rattle.ir_program.proofs.used.Renaming.{value-test}
+use Rattle.kit.specs.Context.{KitProgram}
 use Rattle.kit_flat.specs.View.{op_view}
 use Rattle.kit_flat.specs.Sound.{AreBelow, InstructionFits}
 use Rattle.kit_flat.specs.Renames.{rename_op, TargetsAreInside}
 use Rattle.kit_places.specs.Numbers.{value_number, values_of, no_value, value_at, block_with, operation_with}
-use Rattle.kit_places.specs.Store.{InterpretedProgram, op_at}
+use Rattle.kit_places.specs.Store.{op_at}
 use Rattle.kit_places.proofs.Rows.{moved, ended}
 use Rattle.kit_interpreter.proofs.Sets.{listed_next, next_each, next_same}
 use Rattle.kit_interpreter.proofs.Lowered.{named_back, numbers_below}
@@ -40,7 +41,7 @@ returns c =
     let keys = c.args.values.now.keys in
     let vs = values_of (arguments_at c.args.ctx.now.program c.args.block) in
     let row = c.in_ok-arguments.ensures ∙ ap
-    (λ (p : InterpretedProgram). map (value_number keys) (values_of (arguments_at p c.args.block))) c.program-2.ensures in
+    (λ (p : KitProgram). map (value_number keys) (values_of (arguments_at p c.args.block))) c.program-2.ensures in
     let all = ended (λ ps. ps ≡ operations_in c.args.ctx.now.program c.args.block) c.loop-op.yielded
     c.loop-op.op-iterator c.in-None.ensures.steps.0 c.loop-op.invariant.listed in
     record {

@@ -1,7 +1,7 @@
 use Rattle.std.proofs.Common.{sym, subst}
+use Rattle.kit.specs.Context.{KitProgram}
 use Rattle.opt_inside.specs.Numbered.{NumbersInside, numbers_of}
 use Rattle.kit_flat.specs.declared.flat.FlatFunction.{FlatFunction}
-use Rattle.kit_places.specs.Store.{InterpretedProgram}
 use Rattle.kit_interpreter.proofs.Bodies.{IsSetting, live_at, numbered_at, lowers_at}
 use Rattle.kit_interpreter.proofs.lowering.lower_inside.Goals as goal
 
@@ -9,10 +9,10 @@ pub lower_blocks-requires-clause-live : goal.lower_blocks-requires-clause-live
 lower_blocks-requires-clause-live c =
     let set : IsSetting c.args.ctx.now.program c.args.op c.in-Some.region (numbers_of c.args.inside.now)
     c.in_ok-blocks.blocks.keys =
-    subst (λ (p : InterpretedProgram). IsSetting p c.args.op c.in-Some.region (numbers_of c.args.inside.now)
+    subst (λ (p : KitProgram). IsSetting p c.args.op c.in-Some.region (numbers_of c.args.inside.now)
     c.in_ok-blocks.blocks.keys) c.program-program.ensures (record {
       region_is = c.in-Some.ensures.region;
-      numbers = subst (λ (p : InterpretedProgram). NumbersInside p c.args.op (numbers_of c.args.inside.now))
+      numbers = subst (λ (p : KitProgram). NumbersInside p c.args.op (numbers_of c.args.inside.now))
           (sym c.program-program.ensures) c.requires.numbers;
       stands = c.in-Some.ensures.stands;
       blocks_stand = c.know_lists.ensures.blocks;
@@ -27,10 +27,10 @@ pub lower_blocks-requires-clause-numbered : goal.lower_blocks-requires-clause-nu
 lower_blocks-requires-clause-numbered c =
     let set : IsSetting c.args.ctx.now.program c.args.op c.in-Some.region (numbers_of c.args.inside.now)
     c.in_ok-blocks.blocks.keys =
-    subst (λ (p : InterpretedProgram). IsSetting p c.args.op c.in-Some.region (numbers_of c.args.inside.now)
+    subst (λ (p : KitProgram). IsSetting p c.args.op c.in-Some.region (numbers_of c.args.inside.now)
     c.in_ok-blocks.blocks.keys) c.program-program.ensures (record {
       region_is = c.in-Some.ensures.region;
-      numbers = subst (λ (p : InterpretedProgram). NumbersInside p c.args.op (numbers_of c.args.inside.now))
+      numbers = subst (λ (p : KitProgram). NumbersInside p c.args.op (numbers_of c.args.inside.now))
           (sym c.program-program.ensures) c.requires.numbers;
       stands = c.in-Some.ensures.stands;
       blocks_stand = c.know_lists.ensures.blocks;
@@ -45,10 +45,10 @@ pub returns : goal.returns
 returns c =
     let set : IsSetting c.args.ctx.now.program c.args.op c.in-Some.region (numbers_of c.args.inside.now)
     c.in_ok-blocks.blocks.keys =
-    subst (λ (p : InterpretedProgram). IsSetting p c.args.op c.in-Some.region (numbers_of c.args.inside.now)
+    subst (λ (p : KitProgram). IsSetting p c.args.op c.in-Some.region (numbers_of c.args.inside.now)
     c.in_ok-blocks.blocks.keys) c.program-program.ensures (record {
       region_is = c.in-Some.ensures.region;
-      numbers = subst (λ (p : InterpretedProgram). NumbersInside p c.args.op (numbers_of c.args.inside.now))
+      numbers = subst (λ (p : KitProgram). NumbersInside p c.args.op (numbers_of c.args.inside.now))
           (sym c.program-program.ensures) c.requires.numbers;
       stands = c.in-Some.ensures.stands;
       blocks_stand = c.know_lists.ensures.blocks;

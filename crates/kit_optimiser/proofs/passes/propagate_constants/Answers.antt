@@ -2,8 +2,8 @@ use Rattle.std.proofs.Common.{◌≡◌, Err, ap, ◌∙◌, subst}
 use Rattle.ir_base.specs.declared.growth.GrowError.TheVariants.{CounterFull}
 use Rattle.ir_program.specs.Program.{Program}
 use Rattle.ir_trees.specs.Stands.{StandsFor}
+use Rattle.kit.specs.Context.{KitTree}
 use Rattle.kit.specs.Meaning.{KitOperation, KitBlock}
-use Rattle.kit_ruled_views.specs.Ruled.{KitTree}
 use Rattle.kit_optimiser.proofs.Refusals.{only_short, full_of}
 use Rattle.kit_optimiser.proofs.WhatPassesLeave.{IsLeft, live, propagated}
 use Rattle.kit_optimiser.proofs.passes.propagate_constants.Goals as goal

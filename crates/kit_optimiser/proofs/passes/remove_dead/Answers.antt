@@ -1,9 +1,9 @@
 use Rattle.std.proofs.Common.{inl, sym, ap, subst}
 use Rattle.ir_program.specs.Program.{Program}
 use Rattle.ir_trees.specs.Stands.{StandsFor}
+use Rattle.kit.specs.Context.{KitTree}
 use Rattle.opt_inside.specs.Occurring.{OfItsTree, DefinesAllBelow}
 use Rattle.kit.specs.Meaning.{KitOperation, KitBlock}
-use Rattle.kit_ruled_views.specs.Ruled.{KitTree}
 use Rattle.kit_optimiser.specs.Outside.{KeepsRest}
 use Rattle.kit_optimiser.proofs.LeftOutside.{kept_none}
 use Rattle.kit_optimiser.proofs.Refusals.{memory_of}

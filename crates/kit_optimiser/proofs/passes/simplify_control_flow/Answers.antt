@@ -2,8 +2,8 @@ use Rattle.std.proofs.Common.{inl, subst}
 use Rattle.ir_program.specs.Lists.{itself}
 use Rattle.ir_program.specs.Program.{Program}
 use Rattle.ir_trees.specs.Stands.{StandsFor}
+use Rattle.kit.specs.Context.{KitTree}
 use Rattle.kit.specs.Meaning.{KitOperation, KitBlock}
-use Rattle.kit_ruled_views.specs.Ruled.{KitTree}
 use Rattle.kit_optimiser.proofs.Refusals.{memory_of, stops_for_memory}
 use Rattle.kit_optimiser.proofs.WhatPassesLeave.{IsLeft, live, simplified}
 use Rattle.kit_optimiser.proofs.passes.simplify_control_flow.Goals as goal

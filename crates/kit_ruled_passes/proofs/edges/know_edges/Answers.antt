@@ -1,11 +1,11 @@
 use Rattle.std.proofs.Common.{IsSome, sym, subst}
 use Rattle.ir_program.specs.Program.{Program, operation_at}
 use Rattle.ir_trees.specs.Stands.{StandsFor}
+use Rattle.kit.specs.Context.{KitTree}
 use Rattle.opt_inside.proofs.Around.{HasLists}
 use Rattle.opt_inside.specs.Occurring.{OfItsTree}
 use Rattle.opt_trees.specs.Occurrences.{BlocksApart}
 use Rattle.kit.specs.Meaning.{KitOperation, KitBlock}
-use Rattle.kit_ruled_views.specs.Ruled.{KitTree}
 use Rattle.kit_ruled_passes.specs.Edges.{HasScopedEdges}
 use Rattle.kit_ruled_passes.proofs.EdgesOfRules.{edges_inside, live_inside}
 use Rattle.kit_ruled_passes.proofs.LocalOfScoped.{local_of_scoped}

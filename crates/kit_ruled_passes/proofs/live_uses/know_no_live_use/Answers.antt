@@ -1,10 +1,10 @@
 use Rattle.std.proofs.Common.{subst}
 use Rattle.ir_program.specs.Program.{Program}
 use Rattle.ir_trees.specs.Stands.{StandsFor}
+use Rattle.kit.specs.Context.{KitTree}
 use Rattle.opt_inside.proofs.Added.{HasValues}
 use Rattle.opt_inside.proofs.Around.{HasLists}
 use Rattle.kit.specs.Meaning.{KitOperation, KitBlock}
-use Rattle.kit_ruled_views.specs.Ruled.{KitTree}
 use Rattle.kit_ruled_passes.proofs.NoLiveUse.{no_live_use}
 use Rattle.kit_ruled_passes.proofs.live_uses.know_no_live_use.Goals as goal
 

@@ -1,5 +1,5 @@
 use Rattle.std.proofs.Common.{subst}
-use Rattle.kit_ruled_passes.specs.Scopes.{KitProgram}
+use Rattle.kit.specs.Context.{KitProgram}
 use Rattle.kit_ruled_passes.proofs.LiveValues.{KnowsValues}
 use Rattle.kit_ruled_passes.proofs.PutNames.{is_named}
 use Rattle.kit_ruled_passes.proofs.naming.know_propagated.Goals as goal

@@ -1,7 +1,7 @@
 use Rattle.std.proofs.Common.{subst}
+use Rattle.kit.specs.Context.{KitProgram}
 use Rattle.opt_inside.proofs.Around.{HasLists}
 use Rattle.opt_inside.specs.Occurring.{OfItsTree, EachFound, EachBlock, IsOccurrence, IsBlockOccurrence, BlockNamesApart}
-use Rattle.kit_ruled_passes.specs.Scopes.{KitProgram}
 use Rattle.kit_ruled_passes.proofs.Determined.{none_lacks}
 use Rattle.kit_ruled_passes.proofs.FittingEdges.{edge_fits}
 use Rattle.kit_ruled_passes.proofs.LocalEdges.{fits_edges}

@@ -3,9 +3,9 @@ use Rattle.ir_program.specs.Preorder.{AreInside, nodes_inside}
 use Rattle.ir_program.specs.Program.{Program}
 use Rattle.ir_program.specs.declared.handles.IRNode.TheVariants.{Operation as OperationNode}
 use Rattle.ir_trees.specs.Stands.{StandsFor}
+use Rattle.kit.specs.Context.{KitTree}
 use Rattle.opt_inside.proofs.Around.{HasLists}
 use Rattle.kit.specs.Meaning.{KitOperation, KitBlock}
-use Rattle.kit_ruled_views.specs.Ruled.{KitTree}
 use Rattle.kit_ruled_passes.proofs.InsideOrNot.{decided_by}
 use Rattle.kit_ruled_passes.proofs.LocalEdges.{leads_below, fits_edges, local_edges}
 use Rattle.kit_ruled_passes.proofs.premises.know_premises.Goals as goal

@@ -1,13 +1,13 @@
 use Rattle.std.proofs.Common.{[], ◌∷◌, refl, subst}
 use Rattle.ir_program.specs.Program.{Program}
 use Rattle.ir_trees.specs.Stands.{StandsFor}
+use Rattle.kit.specs.Context.{KitTree}
 use Rattle.opt_decide.proofs.SaidAround.{HasValues as Said}
 use Rattle.opt_inside.proofs.Around.{HasLists}
 use Rattle.opt_inside.proofs.Added.{HasValues}
 use Rattle.opt_inside.specs.Around.{CanTellTaken}
 use Rattle.opt_trees.specs.Simplify.{OfOperations}
 use Rattle.kit.specs.Meaning.{KitOperation, KitBlock}
-use Rattle.kit_ruled_views.specs.Ruled.{KitTree}
 use Rattle.kit_ruled_passes.proofs.KeptScopes.{nothing_lost}
 use Rattle.kit_ruled_passes.proofs.NoCircles.{no_circle}
 use Rattle.kit_ruled_passes.proofs.Homes.{IsFirst, homed_regions}

@@ -1,12 +1,12 @@
 use Rattle.std.proofs.Common.{subst}
 use Rattle.ir_program.specs.Program.{Program}
 use Rattle.ir_trees.specs.Stands.{StandsFor}
+use Rattle.kit.specs.Context.{KitTree}
 use Rattle.opt_inside.proofs.Around.{HasLists}
 use Rattle.opt_inside.proofs.Values.{defined}
 use Rattle.kit.specs.Meaning.{KitOperation, KitBlock}
 use Rattle.kit_checks.specs.declared.rule.Rule.TheVariants as rule
 use Rattle.kit_checks.specs.World.{world_of}
-use Rattle.kit_ruled_views.specs.Ruled.{KitTree}
 use Rattle.kit_ruled_passes.specs.Scopes.{IsInScope}
 use Rattle.kit_ruled_passes.proofs.KeptScopes.{decided_in_scope, decided_untaken, after_deciding, cut_in_scope}
 use Rattle.kit_ruled_passes.proofs.ScopesOfRules.{scoped_by_rules, root_takes_none}

@@ -10,7 +10,7 @@ use Rattle.kit_verifier.proofs.repeats.add_repeats.Goals as goal
 pub loop-op-init : goal.loop-op-init
 loop-op-init c = record {
   listed = c.into_iter-op-iterator.ensures.into_iter_gives ∙ c.operations-op-items.ensures.list ∙ ap (λ p. operations_in p c.args.block) c.program-program.ensures;
-  names = subst (λ l. Collected (Named (world_of c.args.ctx.now) c.args.ctx.now.program) [] (texts_of l)) (sym c.new-names.ensures.empty) (collected_none (Named (world_of c.args.ctx.now) c.args.ctx.now.program));
+  names = subst (λ l. Collected (Named (world_of c.args.ctx.now) c.args.ctx.now.program) [] (texts_of l)) (sym c.with_hasher-names.ensures.empty) (collected_none (Named (world_of c.args.ctx.now) c.args.ctx.now.program));
   repeats = gains_none c.args.repeats.now.keys (IsRepeat (world_of c.args.ctx.now) c.args.ctx.now.program []) (repeats_none (world_of c.args.ctx.now) c.args.ctx.now.program);
 }
 

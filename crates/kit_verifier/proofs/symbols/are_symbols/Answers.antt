@@ -11,7 +11,7 @@ use Rattle.kit_verifier.proofs.symbols.are_symbols.Goals as goal
 pub loop-op-init : goal.loop-op-init
 loop-op-init c = record {
   listed = c.into_iter-op-iterator.ensures.into_iter_gives ∙ c.operations-op-items.ensures.list ∙ ap (λ p. operations_in p c.args.block) c.program-program.ensures;
-  names = subst (λ l. Collected (Named (world_of c.args.ctx.now) c.args.ctx.now.program) [] (texts_of l)) (sym c.new-names.ensures.empty) (collected_none (Named (world_of c.args.ctx.now) c.args.ctx.now.program));
+  names = subst (λ l. Collected (Named (world_of c.args.ctx.now) c.args.ctx.now.program) [] (texts_of l)) (sym c.with_hasher-names.ensures.empty) (collected_none (Named (world_of c.args.ctx.now) c.args.ctx.now.program));
   symbols = no_symbols (world_of c.args.ctx.now) c.args.ctx.now.program;
 }
 
