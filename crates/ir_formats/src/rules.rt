@@ -452,13 +452,22 @@ impl RuleMaker {
             Directive::Type => symbols.extend_from_slice(&[Symbol::Part(TYPE)]),
             Directive::Region => symbols.extend_from_slice(&[Symbol::Part(REGION)]),
             Directive::Name => {
-                symbols.extend_from_slice(&[Symbol::Sign(NAME_SIGN), Symbol::Act(Action::Leaf(LeafSort::Name))])
+                symbols.extend_from_slice(&[
+                    Symbol::Sign(NAME_SIGN),
+                    Symbol::Act(Action::Leaf(LeafSort::Name)),
+                ])
             }
             Directive::Number => {
-                symbols.extend_from_slice(&[Symbol::Sign(NUMBER_SIGN), Symbol::Act(Action::Leaf(LeafSort::Number))])
+                symbols.extend_from_slice(&[
+                    Symbol::Sign(NUMBER_SIGN),
+                    Symbol::Act(Action::Leaf(LeafSort::Number)),
+                ])
             }
             Directive::Width => {
-                symbols.extend_from_slice(&[Symbol::Sign(WIDTH_SIGN), Symbol::Act(Action::Leaf(LeafSort::Width))])
+                symbols.extend_from_slice(&[
+                    Symbol::Sign(WIDTH_SIGN),
+                    Symbol::Act(Action::Leaf(LeafSort::Width)),
+                ])
             }
             Directive::Operands | Directive::Successor | Directive::List(_, _) => Ok(()),
         }

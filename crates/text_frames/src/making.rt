@@ -14,14 +14,13 @@ ghost use Rattle.ir_types.specs.Interned.{KeepsTypes};
 ghost use Rattle.text_dialect.specs.declared.dialect.MakeFault.TheVariants.{Refused};
 ghost use Rattle.text_frames.specs.Makes.{IsSpelled, types_in};
 
+use crate::source::{number_of, width_of};
 use ir_characters::Text;
 use ir_context::Context;
 use ir_names::{Identifier, IdentifierError, InvalidIdentifier, TypeHandle};
 use ir_print::{LeafSort, LeafValue, Part};
 use std::alloc::{AllocError, Global};
 use text_dialect::{MakeFault, OperationDraft, TextDialect};
-
-use crate::source::{number_of, width_of};
 
 /// The type of these parts, of the kind with a number, or the first part that is refused.
 pub fn make_type<D: TextDialect>(
