@@ -1,5 +1,5 @@
 -- Which trees are texts again: their names have definitions, and their operations are what their pieces say.
-use Rattle.std.specs.Prelude.{◌≡◌, ℕ, suc, Bool, true, false, List, [], ◌∷◌, ◌++◌, map, length, Some, None, slice_get, if◌then◌else◌}
+use Rattle.std.specs.Prelude.{◌≡◌, ◌<◌, ℕ, suc, Bool, true, false, List, [], ◌∷◌, ◌++◌, map, length, Some, None, slice_get, if◌then◌else◌}
 use Rattle.std.specs.List.{range_with_len}
 use Rattle.ir_names.specs.Tree.{node, no_tree, a_tree}
 use Rattle.ir_print.specs.Formats.{Formats, Kind}
@@ -176,6 +176,10 @@ abbrev pub number_in : {N : Type 0} → Entities N → ℕ
 number_in no_entity = 0
 number_in (an_entity t ts) = suc (number_in ts)
 
+-- a root that has regions is isolated
+abbrev pub IsIsolatedRoot : {N : Type 0} → (ℕ → Bool) → Entity N → Type 0
+IsIsolatedRoot isolated (entity h ts) = 0 < number_in ts → is_isolated_head isolated h ≡ true
+
 -- An operation has results of the types that its pieces give, and as many regions and edges as they say; regions hold blocks, and blocks
 -- operations.
 abbrev mutual
@@ -226,6 +230,7 @@ pub record IsClosedTree {N : Type 0} (l : Language) (t : Entity N) : Type 0 wher
   pub fits : FitsTree l.formats l.values t
   pub scoped : IsScopedRoot l.isolated t
   pub edges : HasEdges [] t
+  pub isolated : IsIsolatedRoot l.isolated t
   pub shallow : IsShallow 64 t
   pub bare : IsBareTree t
 

@@ -14,7 +14,7 @@ use Rattle.ir_tokens.specs.declared.tokens.TokenKind.{TokenKind}
 use Rattle.ir_tokens.specs.declared.faults.Fault.{Fault}
 use Rattle.ir_scopes.specs.declared.scopes.Resolution.{Resolution}
 use Rattle.ir_scopes.specs.declared.sites.Site.{Site}
-use Rattle.ir_forest.specs.Closed.{IsClosedTree, IsNumbered, AllDistinct, definitions_of, unlabelled, IsLabelled, IsScopedRoot, IsSameModule}
+use Rattle.ir_forest.specs.Closed.{IsClosedTree, IsNumbered, AllDistinct, definitions_of, unlabelled, IsLabelled, IsScopedRoot, IsIsolatedRoot, IsSameModule}
 use Rattle.ir_forest.specs.Forest.{ActionSpan, IsForestOf}
 use Rattle.ir_forest.specs.Meaning.{operations_in, renamed}
 use Rattle.ir_grammar.specs.Nesting.{at_root, at_end, Nests}
@@ -54,6 +54,7 @@ use Rattle.ir_rereading.proofs.trees.TreeEdges.{Linked, LinkedToken, edge_tokens
 use Rattle.ir_rereading.proofs.trees.TreeRenamed.{successors_of}
 use Rattle.ir_rereading.proofs.trees.TreeSites.{In}
 use Rattle.ir_rereading.proofs.trees.TreeNumbers.{resolution}
+use Rattle.ir_rereading.proofs.trees.RootOpenings.{no_root_fault, isolated_of_renamed}
 use Rattle.ir_rereading.proofs.trees.TreeScopes.{definition_tokens, mention_tokens}
 use Rattle.ir_rereading.proofs.TreeTexts.{value_spelled, label_spelled, label_mention_spelled, spelled_alike, numbered_alike, has_own, all_numbered, names_apart, definitions_within, mentions_within, text_none_again, text_none_lacking, text_means}
 
@@ -197,6 +198,9 @@ module _ (l : Language) (lead : ordered.PartPositions) (ok : is_ordered lead (ru
   scoped_read : IsScopedRoot l.isolated (renamed text text tree)
   scoped_read = subst (λ u. IsScopedRoot l.isolated u) (sym built.4) there.scoped
 
+  isolated_read : IsIsolatedRoot l.isolated tree
+  isolated_read = isolated_of_renamed l.isolated text text tree (subst (λ u. IsIsolatedRoot l.isolated u) (sym built.4) there.isolated)
+
   labelled_read : IsLabelled tree
   labelled_read = labelled_renamed text text tree (subst (λ (u : Entity (List ℕ)). IsLabelled u) (sym built.4) labels_differ)
 
@@ -261,8 +265,9 @@ module _ (l : Language) (lead : ordered.PartPositions) (ok : is_ordered lead (ru
   none f (inr (inr (inr (inl h)))) = low.0 f h
   none f (inr (inr (inr (inr (inl (inl h)))))) = no_again f h
   none f (inr (inr (inr (inr (inl (inr h)))))) = no_lacking f h
-  none f (inr (inr (inr (inr (inr (inl h)))))) = no_label_again f h
-  none f (inr (inr (inr (inr (inr (inr h)))))) = no_label_lacking f h
+  none f (inr (inr (inr (inr (inr (inl (inl h))))))) = no_label_again f h
+  none f (inr (inr (inr (inr (inr (inl (inr h))))))) = no_label_lacking f h
+  none f (inr (inr (inr (inr (inr (inr h)))))) = no_root_fault l.isolated l.values text es forest tree leads built.2 built.3 isolated_read f h
 
   -- the text says a tree that is the same but for its labels
   pub read_again : length cs < 2 ^ 63 → (again : Entity ℕ) × Says l cs again × IsSameModule again t

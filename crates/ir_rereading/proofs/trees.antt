@@ -7,6 +7,7 @@ pub mod TreePlaces
 pub mod TreeCounts
 pub mod TreeSites
 pub mod TreeParts
+pub mod RootOpenings
 pub mod TreeRenamed
 pub mod TreeWalks
 pub mod TreeScopes

@@ -68,6 +68,7 @@ tell kinds.ResultNames at = told.Syntax at.0 at.1
 tell kinds.TooDeep at = told.TooDeep at.0 at.1
 tell kinds.MultipleDefinitions at = told.Scope at.0 at.1 causes.MultipleDefinitions
 tell kinds.UnresolvedReference at = told.Scope at.0 at.1 causes.UnresolvedReference
+tell kinds.TopLevelOpRegionNotIsolatedFromAbove at = told.Scope at.0 at.1 causes.TopLevelOpRegionNotIsolatedFromAbove
 
 -- The text is refused so: this is the first of its faults.
 abbrev pub IsTextFault : Language → List ℕ → TextFault → Type 0

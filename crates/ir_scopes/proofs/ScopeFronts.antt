@@ -1,8 +1,9 @@
--- Faults of names in a front of what reading does.
-use Rattle.std.proofs.Common.{◌≡◌, ℕ, suc, zero, ◌+◌, ◌<◌, ◌≤◌, Bool, true, false, cond, List, [], ◌∷◌, ◌++◌, length, Some, None, slice_get, refl, sym, subst, ap, ◌∙◌, arith, ◌⊎◌, inl, inr, append_assoc, nat_eq}
+-- Faults of scopes in a front of what reading does.
+use Rattle.std.proofs.Common.{◌≡◌, ℕ, suc, zero, ◌+◌, ◌<◌, ◌≤◌, Bool, true, false, cond, List, [], ◌∷◌, ◌++◌, length, Option, Some, None, option_map, slice_get, refl, sym, subst, ap, ◌∙◌, arith, ◌⊎◌, inl, inr, append_assoc, nat_eq}
 use Rattle.std.proofs.lemmas.Option.{slice_get_within}
-use Rattle.std.proofs.lemmas.Bool.{eq-eqb}
+use Rattle.std.proofs.lemmas.Bool.{eq-eqb, cases_lt}
 use Rattle.ir_tokens.specs.declared.faults.Fault.{Fault}
+use Rattle.ir_tokens.specs.Faults.{FaultPrecedes, IsNamed}
 use Rattle.ir_grammar.specs.declared.grammar.Action.TheVariants.{Result, Argument, Label, Operand, BeginSuccessor, Operation, EndOperation, BeginRegion, EndRegion}
 use Rattle.ir_grammar.specs.declared.grammar.Event.{Event}
 use Rattle.ir_grammar.specs.declared.grammar.Event.TheVariants.{Took, Did}
@@ -10,7 +11,7 @@ use Rattle.ir_scopes.specs.declared.sites.Closing.{Closing}
 use Rattle.ir_scopes.specs.declared.sites.Frame.{Frame}
 use Rattle.ir_scopes.specs.declared.sites.Site.{Site}
 use Rattle.ir_grammar.specs.Reading.{tooks}
-use Rattle.ir_scopes.specs.Scopes.{EventPlace, beginning, behind, last_token, outside, operation_frame, region_frame, rest, here_behind_operation, here_behind_region, may_end, defined, mentioned, labelled, label_mentioned, ended, each, Names, IsAgain, IsUnresolvedName, HasNameFault, HasScopeFault}
+use Rattle.ir_scopes.specs.Scopes.{EventPlace, beginning, behind, last_token, outside, operation_frame, region_frame, rest, here_behind_operation, here_behind_region, may_end, defined, mentioned, labelled, label_mentioned, ended, each, Names, IsAgain, IsUnresolvedName, HasNameFault, HasScopeFault, is_around_root, opened_below_root, root_openings, fault_not_isolated, IsRootFault}
 use Rattle.ir_scopes.proofs.ListEnds.{get_more}
 use Rattle.ir_scopes.proofs.Apart.{get_append}
 use Rattle.ir_scopes.proofs.Walks.{these, same_names}
@@ -290,7 +291,84 @@ module _ (names : List ℕ) where
         go (inl a) (inr b) = absurd (past h.0 h.1 a b.0 h.3.1 b.2 h.3.3)
         go (inr a) b = inr (let met : f.met ≡ h.1.met = ap (λ g. g.met) h.4 in omega (arith, low a.0 h.1 a.2))
 
+-- ---- regions of the root
+
+opened_at : (at : EventPlace) (e : Event) (i k : ℕ) → slice_get (opened_below_root at e) i ≡ Some k → k ≡ last_token at
+opened_at at Took i k h = none k h
+opened_at at (Did BeginRegion) i k h = go (is_around_root at.around) at.here.isolated h
+  where
+    go : (b c : Bool) → slice_get (cond b (cond c [] (last_token at ∷ [])) []) i ≡ Some k → k ≡ last_token at
+    go true true h = none k h
+    go true false h = sym (one _ k i h)
+    go false c h = none k h
+opened_at at (Did _) i k h = none k h
+
+module _ (isolated : ℕ → Bool) where
+  openings_from : (at : EventPlace) (es : List Event) (i k : ℕ) → slice_get (each isolated opened_below_root at es) i ≡ Some k → at.tokens ≤ k + 1
+  openings_from at es i k h = each_from (λ f. f.labels) labels_part isolated opened_below_root (λ x. x) opened_at at es i k h
+
+  -- they open one after the other
+  first_opening : (at : EventPlace) (es : List Event) (i k first : ℕ) → slice_get (each isolated opened_below_root at es) 0 ≡ Some first → slice_get (each isolated opened_below_root at es) i ≡ Some k → first ≤ k
+  first_opening at [] i k first f h = none k h
+  first_opening at (e ∷ es) i k first f h = go
+      (get_append (opened_below_root at e) (each isolated opened_below_root (behind isolated at e) es) 0 first f)
+      (get_append (opened_below_root at e) (each isolated opened_below_root (behind isolated at e) es) i k h)
+      (λ j l x y. first_opening (behind isolated at e) es j l first x y)
+    where
+      go : (slice_get (opened_below_root at e) 0 ≡ Some first)
+          ⊎ ((j : ℕ) × (0 ≡ length (opened_below_root at e) + j) × (slice_get (each isolated opened_below_root (behind isolated at e) es) j ≡ Some first))
+          → (slice_get (opened_below_root at e) i ≡ Some k)
+          ⊎ ((j : ℕ) × (i ≡ length (opened_below_root at e) + j) × (slice_get (each isolated opened_below_root (behind isolated at e) es) j ≡ Some k))
+          → ((j l : ℕ) → slice_get (each isolated opened_below_root (behind isolated at e) es) 0 ≡ Some first → slice_get (each isolated opened_below_root (behind isolated at e) es) j ≡ Some l → first ≤ l) → first ≤ k
+      go (inl x) (inl y) later = let a = opened_at at e 0 first x in let b = opened_at at e i k y in omega arith
+      go (inl x) (inr y) later =
+          let a = opened_at at e 0 first x in
+          let b = openings_from (behind isolated at e) es y.0 k y.2 in
+          let c = tokens_next (λ f. f.labels) labels_part isolated at e in
+          omega arith
+      go (inr x) (inl y) later = let w = slice_get_within (opened_below_root at e) i k y in let z = x.1 in absurd (omega arith)
+      go (inr x) (inr y) later =
+          let z : x.0 ≡ 0 = (let s = x.1 in omega arith) in
+          later y.0 k (subst (λ j. slice_get (each isolated opened_below_root (behind isolated at e) es) j ≡ Some first) z x.2) y.2
+
+  -- of faults that are met at these tokens, the first is named
+  pub root_named : (es : List Event) → IsNamed (IsRootFault isolated es) (option_map fault_not_isolated (slice_get (root_openings isolated es) 0))
+  root_named es = go (slice_get (root_openings isolated es) 0) refl
+    where
+      in_order : (j k : ℕ) → j ≤ k → FaultPrecedes (fault_not_isolated j) (fault_not_isolated k)
+      in_order j k le = met (cases_lt j k)
+        where
+          met : (j < k) ⊎ (k ≤ j) → FaultPrecedes (fault_not_isolated j) (fault_not_isolated k)
+          met (inl x) = inl x
+          met (inr x) = inr (omega arith, inr (refl, omega arith))
+
+      go : (o : Option ℕ) → slice_get (root_openings isolated es) 0 ≡ o → IsNamed (IsRootFault isolated es) (option_map fault_not_isolated o)
+      go None e = λ f h. no_first (root_openings isolated es) h.0 h.1 e h.2
+        where
+          no_first : (ks : List ℕ) (i k : ℕ) → slice_get ks 0 ≡ None → slice_get ks i ≡ Some k → ⊥
+          no_first [] i k e h = none k h
+          no_first (x ∷ ks) i k e h = cc
+      go (Some first) e = ((0, first, e, refl), λ g h. subst (FaultPrecedes (fault_not_isolated first)) (sym h.3) (in_order first h.1 (first_opening beginning es h.0 h.1 first e h.2)))
+
 module _ (isolated : ℕ → Bool) (names : List ℕ) (a b : List Event) where
+  -- ---- the root
+
+  root_split : root_openings isolated (a ++ b) ≡ root_openings isolated a ++ each isolated opened_below_root (arrived (λ f. f.labels) labels_part isolated beginning a) b
+  root_split = each_append (λ f. f.labels) labels_part isolated opened_below_root beginning a b
+
+  root_stays : (f : Fault) → IsRootFault isolated a f → IsRootFault isolated (a ++ b) f
+  root_stays f h = (h.0, h.1, subst (λ ks. slice_get ks h.0 ≡ Some h.1) (sym root_split) (get_more (root_openings isolated a) (each isolated opened_below_root (arrived (λ f. f.labels) labels_part isolated beginning a) b) h.0 h.1 h.2), h.3)
+
+  root_later : (f : Fault) → IsRootFault isolated (a ++ b) f → IsRootFault isolated a f ⊎ (tooks a ≤ f.met + 1)
+  root_later f h = elim (get_append (root_openings isolated a) (each isolated opened_below_root (arrived (λ f. f.labels) labels_part isolated beginning a) b) h.0 h.1 (subst (λ ks. slice_get ks h.0 ≡ Some h.1) root_split h.2)) [
+    | inl x ↦ inl (h.0, h.1, x, h.3)
+    | inr y ↦ inr
+        (let low = openings_from isolated (arrived (λ f. f.labels) labels_part isolated beginning a) b y.0 h.1 y.2 in
+        let taken = arrived_tokens (λ f. f.labels) labels_part isolated beginning a in
+        let met : f.met ≡ h.1 = ap (λ g. g.met) h.3 in
+        omega arith)
+  ]
+
   -- ---- names of one sort
 
   module _ (scope place : Frame → ℕ) (part : IsScopePart scope) (f g : EventPlace → Event → List Site) (f_here : IsMadeHere scope f) (g_here : IsMadeHere scope g) where
@@ -347,12 +425,14 @@ module _ (isolated : ℕ → Bool) (names : List ℕ) (a b : List Event) where
         go (inr h) = elim (lacking_later names (each isolated f beginning a) (more f) (each isolated g beginning a) (more g) (each isolated close beginning a) (more close) (tooks a) x (past g g_here)
             (low close (λ c. c.met) (closed_met scope part isolated place)) h) [ inl y ↦ inl (inr y) | inr y ↦ inr y ]
 
-  -- ---- all names
+  -- ---- all of them
 
   pub stays : (f : Fault) → HasScopeFault isolated names a f → HasScopeFault isolated names (a ++ b) f
   stays f (inl h) = inl (name_stays (λ x. x.values) (λ x. x.values_opened) values_part defined mentioned defined_at mentioned_at f h)
-  stays f (inr h) = inr (name_stays (λ x. x.labels) (λ x. x.labels_opened) labels_part labelled label_mentioned labelled_at label_mentioned_at f h)
+  stays f (inr (inl h)) = inr (inl (name_stays (λ x. x.labels) (λ x. x.labels_opened) labels_part labelled label_mentioned labelled_at label_mentioned_at f h))
+  stays f (inr (inr h)) = inr (inr (root_stays f h))
 
   pub later : (f : Fault) → HasScopeFault isolated names (a ++ b) f → HasScopeFault isolated names a f ⊎ (tooks a ≤ f.met + 1)
   later f (inl h) = elim (name_later (λ x. x.values) (λ x. x.values_opened) values_part defined mentioned defined_at mentioned_at f h) [ inl x ↦ inl (inl x) | inr x ↦ inr x ]
-  later f (inr h) = elim (name_later (λ x. x.labels) (λ x. x.labels_opened) labels_part labelled label_mentioned labelled_at label_mentioned_at f h) [ inl x ↦ inl (inr x) | inr x ↦ inr x ]
+  later f (inr (inl h)) = elim (name_later (λ x. x.labels) (λ x. x.labels_opened) labels_part labelled label_mentioned labelled_at label_mentioned_at f h) [ inl x ↦ inl (inr (inl x)) | inr x ↦ inr x ]
+  later f (inr (inr h)) = elim (root_later f h) [ inl x ↦ inl (inr (inr x)) | inr x ↦ inr x ]

@@ -1,4 +1,4 @@
--- Where the names of a text stand, what they mean, and the faults of names.
+-- Where the names of a text stand, what they mean, and the faults of scopes.
 use Rattle.std.specs.Prelude.{◌≡◌, ℕ, ◌+◌, ◌-◌, ◌<◌, ◌==◌, List, [], ◌∷◌, ◌++◌, Option, Some, None, Bool, true, false, cond, ◌⊎◌, slice_get, slice_index, slice_index_or, length, reverse}
 use Rattle.std.specs.Bool.{MatchBool}
 use Rattle.std.specs.BTreeSet as bag
@@ -9,7 +9,7 @@ use Rattle.ir_grammar.specs.declared.grammar.Action.TheVariants.{Result, Argumen
 use Rattle.ir_grammar.specs.declared.grammar.Event.{Event}
 use Rattle.ir_grammar.specs.declared.grammar.Event.TheVariants.{Took, Did}
 use Rattle.ir_tokens.specs.declared.faults.Fault.{Fault}
-use Rattle.ir_tokens.specs.declared.faults.FaultKind.TheVariants.{MultipleDefinitions, UnresolvedReference}
+use Rattle.ir_tokens.specs.declared.faults.FaultKind.TheVariants.{MultipleDefinitions, UnresolvedReference, TopLevelOpRegionNotIsolatedFromAbove}
 use Rattle.ir_scopes.specs.declared.scopes.Resolution.{Resolution}
 use Rattle.ir_scopes.specs.declared.scopes.ScopeFault.{ScopeFault}
 use Rattle.ir_scopes.specs.declared.scopes.ScopeFault.TheVariants.{Memory, Text}
@@ -191,6 +191,20 @@ label_mentions isolated es = each isolated label_mentioned beginning es
 abbrev pub label_closings : (ℕ → Bool) → List Event → List Closing
 label_closings isolated es = each isolated (label_closed isolated) beginning es
 
+-- what is open around the root: only what is outside of all operations
+abbrev pub is_around_root : List Frame → Bool
+is_around_root (f ∷ []) = true
+is_around_root _ = false
+
+-- the token that opens a region, if that is one of a root that isn't isolated: it stands directly below the root
+abbrev pub opened_below_root : EventPlace → Event → List ℕ
+opened_below_root at (Did BeginRegion) = cond (is_around_root at.around) (cond at.here.isolated [] (last_token at ∷ [])) []
+opened_below_root at _ = []
+
+-- the tokens that open the regions of such a root, in the order of the text
+abbrev pub root_openings : (ℕ → Bool) → List Event → List ℕ
+root_openings isolated es = each isolated opened_below_root beginning es
+
 -- The names of one sort in a text, those of values or those of blocks: where they are defined, where they are mentioned, and
 -- where their scopes end.
 pub record Names : Type 0 where
@@ -214,10 +228,16 @@ label_names isolated es = record {
 abbrev pub names_at : NameSites → Names
 names_at n = record { definitions = n.definitions.items; mentions = n.mentions.items; closings = n.closings.items }
 
--- these are the names of events
+-- the one that is known, or else the first of these
+abbrev pub known_or_first : Option ℕ → List ℕ → Option ℕ
+known_or_first None ks = slice_get ks 0
+known_or_first (Some k) ks = Some k
+
+-- these are the names of events, and the first region of a root that isn't isolated opens there
 pub record AreSites (isolated : ℕ → Bool) (es : List Event) (s : Sites) : Type 0 where
   pub values : names_at s.values ≡ value_names isolated es
   pub labels : names_at s.labels ≡ label_names isolated es
+  pub root_opened : s.root_opened ≡ slice_get (root_openings isolated es) 0
 
 -- where a walk over events has come to
 abbrev pub place_of : Walker → EventPlace
@@ -271,9 +291,17 @@ IsUnresolvedName names ds ms cs f = (i : ℕ) × (c : Closing) × (slice_get cs 
 abbrev pub HasNameFault : List ℕ → Names → Fault → Type 0
 HasNameFault names n f = IsAgain names n.definitions f ⊎ IsUnresolvedName names n.definitions n.mentions n.closings f
 
--- the faults of names in a text: those of values, and those of labels
+-- a region of a root that isn't isolated is met where it opens, and placed at the root's first token
+abbrev pub fault_not_isolated : ℕ → Fault
+fault_not_isolated k = record { kind = TopLevelOpRegionNotIsolatedFromAbove; met = k; place = 0 }
+
+-- A region opens directly below the root, which isn't isolated.
+abbrev pub IsRootFault : (ℕ → Bool) → List Event → Fault → Type 0
+IsRootFault isolated es f = (i : ℕ) × (k : ℕ) × (slice_get (root_openings isolated es) i ≡ Some k) × (f ≡ fault_not_isolated k)
+
+-- the faults of scopes in a text: those of names of values, those of labels, and those of its root
 abbrev pub HasScopeFault : (ℕ → Bool) → List ℕ → List Event → Fault → Type 0
-HasScopeFault isolated names es f = HasNameFault names (value_names isolated es) f ⊎ HasNameFault names (label_names isolated es) f
+HasScopeFault isolated names es f = HasNameFault names (value_names isolated es) f ⊎ (HasNameFault names (label_names isolated es) f ⊎ IsRootFault isolated es f)
 
 -- the faults that the names at these sites can have
 abbrev pub HasSiteFault : List ℕ → Sites → Fault → Type 0
@@ -333,7 +361,7 @@ pub record Resolves (names : List ℕ) (n : Names) (numbers : List ℕ) (many : 
   pub mentioned : (i j : ℕ) (m : Site) → slice_get n.mentions i ≡ Some m → Means names n.definitions m j → m.token < length names → slice_index numbers m.token ≡ j
   pub resolved : (i k : ℕ) (m : Site) (c : Closing) → slice_get n.mentions i ≡ Some m → slice_get n.closings k ≡ Some c → c.scope ≡ m.scope → (j : ℕ) × Means names n.definitions m j
 
--- What reading did has no fault of names, and its names are looked up: those of values, and labels. Values and blocks have
+-- What reading did has no fault of scopes, and its names are looked up: those of values, and labels. Values and blocks have
 -- numbers of their own, and the numbers of both are in one list: each token names at most one of them.
 pub record IsResolved (isolated : ℕ → Bool) (names : List ℕ) (es : List Event) (r : Resolution) : Type 0 where
   pub faultless : IsNamed (HasScopeFault isolated names es) None

@@ -1,13 +1,13 @@
-//! Which definition each name of a text means.
+//! Which definition each name of a text means, and whether its root may have regions.
 //!
 //! All definitions of a scope count, wherever they stand in it, so first all names are collected, and then those that
 //! were mentioned are looked up, one scope after the other.
-ghost use Rattle.std.specs.Prelude.{◌≡◌, ◌↔◌, ◌<◌, ◌≤◌, ◌+◌, ℕ, List, Option, Some, IfOk, OnOk, MatchResult, true, false, length, slice_get, slice_set, slice_index};
+ghost use Rattle.std.specs.Prelude.{◌≡◌, ◌↔◌, ◌<◌, ◌≤◌, ◌+◌, ℕ, List, Option, Some, option_map, IfOk, OnOk, MatchResult, true, false, length, slice_get, slice_set, slice_index};
 ghost use Rattle.std.specs.List.Sorted.{IsPermutation, IsNonDecreasingBy};
 ghost use Rattle.ir_scopes.specs.declared.sites.Site.{Site};
 ghost use Rattle.ir_grammar.specs.Nesting.{OwnTokens};
 ghost use Rattle.ir_tokens.specs.Faults.{IsNamed, IsFirstOf};
-ghost use Rattle.ir_scopes.specs.Scopes.{is_marked, name_of, fault_again, fault_unresolved, IsAgain, AreLacking, MeanNoted, AreNoted, names_at, IsNameOf, HasNameFault, HasSiteFault, EndsAmong, HaveDistinctTokens, SitesAreApart, NamesAreApart, AreLookedUp, IsResolved, IsScopeFault};
+ghost use Rattle.ir_scopes.specs.Scopes.{is_marked, name_of, fault_again, fault_unresolved, fault_not_isolated, IsAgain, AreLacking, MeanNoted, AreNoted, names_at, IsNameOf, HasNameFault, HasSiteFault, EndsAmong, HaveDistinctTokens, SitesAreApart, NamesAreApart, AreLookedUp, IsResolved, IsScopeFault};
 ghost use Rattle.ir_scopes.specs.Orders.{AreNumberedSites, IsScopeOrder, token_at, AreNamedAlike, HasPlaces, IsScopeWalk, number_passed, number_in, again_at, IsWithinScope, IsThrough};
 
 use crate::sites::{Closing, NameSites, Site, Sites, sites_of};
@@ -43,7 +43,7 @@ pub struct Counts {
     pub edges: usize,
 }
 
-/// Why names aren't looked up.
+/// Why a text's names aren't looked up.
 #[derive(Clone, Copy, Debug, PartialEq, Eq)]
 pub enum ScopeFault {
     Memory,
@@ -119,6 +119,24 @@ fn fault_unresolved(closing: Closing) -> Fault
         met: closing.met,
         place: closing.place,
     }
+}
+
+/// A region of a root that isn't isolated from above opens at this token.
+fn fault_not_isolated(token: usize) -> Fault
+    ensures { result ≡ fault_not_isolated token }
+{
+    Fault {
+        kind: FaultKind::TopLevelOpRegionNotIsolatedFromAbove,
+        met: token,
+        place: 0,
+    }
+}
+
+/// The fault of the root of which the first region that mustn't be opens at this token, if one does.
+fn root_fault(opened: Option<usize>) -> Option<Fault>
+    ensures { result ≡ option_map fault_not_isolated opened }
+{
+    Some(fault_not_isolated(opened?))
 }
 
 /// The scope and the number of each site.
@@ -425,7 +443,8 @@ fn counts_of(sites: &Sites) -> Counts {
     }
 }
 
-/// What the names of a text mean, of which reading did this, or the first fault of its names.
+/// What the names of a text mean, of which reading did this, or its first fault: of its names, or that its root has a region
+/// and isn't isolated from above.
 ///
 /// `names` has a number for each token; two have the same where they are spelled alike. What they mean is written in
 /// their places, so each name of a value or a block has a token of its own. `isolated` has for each kind of operations
@@ -447,8 +466,10 @@ pub fn look_up(
     ensures many { IfOk result (λ r. length r.definitions ≡ length names) }
 {
     let mut sites = sites_of(alloc, events, isolated)?;
+    let root = root_fault(sites.root_opened);
     let mut definitions = names;
-    match resolve(alloc, &mut definitions, &mut sites)? {
+    let unknown = resolve(alloc, &mut definitions, &mut sites)?;
+    match first_of(unknown, root) {
         Some(fault) => Err(ScopeFault::Text(fault)),
         None => Ok(Resolution {
             definitions,

@@ -2,9 +2,10 @@
 //!
 //! A region of an operation that is isolated from above opens a scope of values, each region one of labels. A scope
 //! is given by a number: that of the events before it.
-ghost use Rattle.std.specs.Prelude.{◌≡◌, [], ◌∷◌, ◌++◌, ◌+◌, ◌<◌, ◌≤◌, ◌^◌, OnOk, IfOk, reverse};
-ghost use Rattle.ir_scopes.specs.Scopes.{is_marked, beginning, outside, last_token, behind, here_after, around_after, here_behind_operation, here_behind_region, rest, operation_frame, region_frame, place_of, defined, labelled, mentioned, label_mentioned, values_end, labels_end, ended, closed, label_closed, AreSites};
+ghost use Rattle.std.specs.Prelude.{◌≡◌, [], ◌∷◌, ◌++◌, ◌+◌, ◌<◌, ◌≤◌, ◌^◌, OnOk, IfOk, slice_get, reverse};
+ghost use Rattle.ir_scopes.specs.Scopes.{is_marked, opened_below_root, known_or_first, beginning, outside, last_token, behind, here_after, around_after, here_behind_operation, here_behind_region, rest, operation_frame, region_frame, place_of, defined, labelled, mentioned, label_mentioned, values_end, labels_end, ended, closed, label_closed, AreSites};
 ghost use Rattle.ir_grammar.specs.declared.grammar.Event.TheVariants.{Did};
+ghost use Rattle.ir_grammar.specs.declared.grammar.Action.TheVariants.{BeginRegion};
 
 use ir_grammar::grammar::{Action, Event};
 use std::alloc::{AllocError, Global};
@@ -51,12 +52,14 @@ pub struct NameSites {
     pub closings: Vec<Closing>,
 }
 
-/// The names of a text.
+/// The names of a text, and where a region of its root opens that mustn't.
 #[derive(Drop)]
 pub struct Sites {
     pub values: NameSites,
     /// The labels, by which blocks are named.
     pub labels: NameSites,
+    /// The token that opens the first region directly below the root, if the root isn't isolated from above.
+    pub root_opened: Option<usize>,
     /// How many operations begin. Nothing is proved of this number or the next.
     pub operations: usize,
     /// How many regions begin.
@@ -224,6 +227,17 @@ impl Walker {
         }
     }
 
+    /// The token that opens a region here, if this is one of a root that isn't isolated from above.
+    fn opened_below_root(&self) -> Option<usize>
+        ensures { result ≡ slice_get (opened_below_root (place_of self.now) (Did BeginRegion)) 0 }
+    {
+        if self.around.len() == 1 && !self.here.isolated {
+            Some(self.last())
+        } else {
+            None
+        }
+    }
+
     /// A name of the scope that stands at the last token.
     fn site(&self, scope: usize) -> Site
         ensures { result ≡ record { scope = scope; token = last_token (place_of self.now) } }
@@ -272,6 +286,7 @@ impl Sites {
         ensures mentions { self.new.values.mentions.items ≡ self.old.values.mentions.items }
         ensures labels { self.new.labels.definitions.items ≡ self.old.labels.definitions.items }
         ensures label_mentions { self.new.labels.mentions.items ≡ self.old.labels.mentions.items }
+        ensures root_opened { self.new.root_opened ≡ self.old.root_opened }
     {
         self.values.add_end(before.values_end(met), after.values)?;
         self.labels.add_end(before.labels_end(met), after.labels)
@@ -290,6 +305,8 @@ impl Sites {
             (place_of at.old) (Did action)) }
         ensures closings { OnOk result (self.new.values.closings.items ≡ self.old.values.closings.items ++ closed
             (is_marked isolated.now) (place_of at.old) (Did action)) }
+        ensures root_opened { OnOk result (self.new.root_opened ≡ known_or_first self.old.root_opened (opened_below_root
+            (place_of at.old) (Did action))) }
         ensures labels { OnOk result (self.new.labels.definitions.items ≡ self.old.labels.definitions.items ++ labelled
             (place_of at.old) (Did action)) }
         ensures label_mentions { OnOk result (self.new.labels.mentions.items ≡ self.old.labels.mentions.items ++
@@ -311,6 +328,7 @@ impl Sites {
             }
             Action::BeginRegion => {
                 self.regions = self.regions.saturating_add(1);
+                self.root_opened = self.root_opened.or(at.opened_below_root());
                 at.enter(at.region())?;
             }
             Action::EndOperation => {
@@ -338,6 +356,8 @@ impl Sites {
             (place_of at.old) event) }
         ensures closings { OnOk result (self.new.values.closings.items ≡ self.old.values.closings.items ++ closed
             (is_marked isolated.now) (place_of at.old) event) }
+        ensures root_opened { OnOk result (self.new.root_opened ≡ known_or_first self.old.root_opened (opened_below_root
+            (place_of at.old) event)) }
         ensures labels { OnOk result (self.new.labels.definitions.items ≡ self.old.labels.definitions.items ++ labelled
             (place_of at.old) event) }
         ensures label_mentions { OnOk result (self.new.labels.mentions.items ≡ self.old.labels.mentions.items ++
@@ -356,7 +376,7 @@ impl Sites {
     }
 }
 
-/// The names of a text, of which reading did this. The only error is that memory is refused.
+/// The names of a text, of which reading did this, and where a region of its root opens that mustn't. The only error is that memory is refused.
 ///
 /// `isolated` has for each kind of operations whether it is isolated from above.
 pub fn sites_of(alloc: Global, events: &[Event], isolated: &[bool]) -> Result<Sites, AllocError>
@@ -366,6 +386,7 @@ pub fn sites_of(alloc: Global, events: &[Event], isolated: &[bool]) -> Result<Si
     let mut sites = Sites {
         values: NameSites::new(alloc),
         labels: NameSites::new(alloc),
+        root_opened: None,
         operations: 0,
         regions: 0,
     };

@@ -7,7 +7,7 @@ use std::alloc::{AllocError, AllocFailed};
 use std::fmt;
 use thiserror::Error;
 
-/// Why names, labels or marks of a text can't be looked up.
+/// Why names, labels or marks of a text can't be looked up, or its root can't stand alone.
 #[derive(Clone, Copy, Debug, PartialEq, Eq)]
 pub enum ScopeCause {
     MultipleDefinitions,
@@ -41,6 +41,8 @@ pub enum FaultKind {
     TooDeep,
     MultipleDefinitions,
     UnresolvedReference,
+    /// A root that isn't isolated from above has a region.
+    TopLevelOpRegionNotIsolatedFromAbove,
 }
 
 impl FaultKind {
@@ -55,6 +57,7 @@ impl FaultKind {
             FaultKind::TooDeep => 3,
             FaultKind::MultipleDefinitions => 4,
             FaultKind::UnresolvedReference => 5,
+            FaultKind::TopLevelOpRegionNotIsolatedFromAbove => 6,
         }
     }
 }

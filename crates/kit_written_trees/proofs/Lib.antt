@@ -3,6 +3,7 @@ pub mod Known
 pub mod Standing
 pub mod Numbered
 pub mod Scoping
+pub mod RootRegions
 pub mod Texts
 pub mod HeadLemmas
 pub mod ListLemmas

@@ -1,9 +1,9 @@
 -- The text of an operation that can be written.
 use Rattle.std.specs.Prelude.{slice_get}
-use Rattle.std.proofs.Common.{◌≡◌, ◌∙◌, ⊎_elim, ℕ, List, Some, [], ◌++◌, map, length, option_map, ap, sym, subst}
+use Rattle.std.proofs.Common.{◌≡◌, ◌∙◌, ⊎_elim, ℕ, ◌<◌, List, Some, [], ◌++◌, map, length, option_map, ap, sym, subst}
 use Rattle.std.specs.List.{range_with_len}
 use Rattle.std.proofs.lemmas.List.FromFn.{length-range_with_len}
-use Rattle.ir_forest.specs.Closed.{IsClosedTree, IsNumbered, IsScopedRoot, all_mentioned, all_defined, blocks_of, definitions_of, mentioned_by, defined_by, in_scope, is_isolated_head}
+use Rattle.ir_forest.specs.Closed.{IsClosedTree, IsNumbered, IsScopedRoot, FitsTree, regions_said, number_in, all_mentioned, all_defined, blocks_of, definitions_of, mentioned_by, defined_by, in_scope, is_isolated_head}
 use Rattle.ir_forest.specs.Closed.{names_of as names_so}
 use Rattle.ir_print.specs.Pieces.{Entity, entity}
 use Rattle.ir_program.proofs.defined.Arrivals.{same_value}
@@ -34,6 +34,7 @@ use Rattle.kit_written_trees.specs.Laws.{AreToldByNumbers, HasText}
 use Rattle.opt_trees.proofs.Lists.{length-map}
 use Rattle.kit_written_trees.proofs.Edges.{blocks_in, blocks_found, blocks_known, blocks_same, have_edges}
 use Rattle.kit_written_trees.proofs.Known.{regions_known, has_right, has_parts}
+use Rattle.kit_written_trees.proofs.RootRegions.{said_isolated}
 use Rattle.kit_written_trees.proofs.Numbered.{place_in, is_found, are_numbered}
 use Rattle.kit_written_trees.proofs.Scoping.{in_by_has, scope_kept, names_same, definitions_same, all_in, regions_scoped}
 use Rattle.kit_written_trees.proofs.Standing.{head_so, have_region_trees}
@@ -114,21 +115,29 @@ module _ (s : KitContext) (root : Ptr Operation) (t : KitTree) (stands : StandsF
     ),
   )
 
+  many_said : regions_said w.head.pieces ≡ number_in (written s.types.keys ν β 64 t.regions w.regions)
+  many_said = w.head.holds ∙ sym (as_many s.types.keys ν β 64 t.regions w.regions)
+
+  fits : FitsTree formats values text
+  fits = tree_fits says formats values says_types says_attributes says_operations (Named numbering) HasOwnLabel (seen s) text
+      root has_tree
+
   closed : IsClosedTree kit_language text
   closed = record {
     operation = (
       shapes_so s.types.keys ν β _ t.head.results w.head.shapes w.head.typed ∙ w.head.read,
-      w.head.holds ∙ sym (as_many s.types.keys ν β 64 t.regions w.regions),
+      many_said,
       w.head.counted ∙ sym (length-map β t.head.successors),
       are_regions s.types.keys ν β 64 t.regions w.regions,
     );
-    fits = tree_fits says formats values says_types says_attributes says_operations (Named numbering) HasOwnLabel
-        (seen s) text root has_tree;
+    fits = fits;
     scoped = scoped_root;
     edges = (
       in_by_has (map β t.head.successors) [] (λ n has. absurd (subst (λ bs. Has n (map β bs)) no_successors has)),
       have_edges s.types.keys ν β 64 t.regions w.regions (IsNoBlock by_handle) [] edges (λ b none. absurd none),
     );
+    isolated = λ some.
+        said_isolated w.head.kind fits.0.0 w.head.pieces fits.0.1 fits.0.2 (subst (λ n. 0 < n) (sym many_said) some);
     shallow = (w.head.flat, is_shallow s.types.keys ν β 64 t.regions w.regions);
     bare = (w.head.bare, is_bare s.types.keys ν β 64 t.regions w.regions);
   }

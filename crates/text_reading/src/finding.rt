@@ -137,6 +137,11 @@ fn told(kind: FaultKind, place: (usize, usize)) -> TextFault
         FaultKind::UnresolvedReference => {
             TextFault::Scope(line, column, ScopeCause::UnresolvedReference)
         }
+        FaultKind::TopLevelOpRegionNotIsolatedFromAbove => TextFault::Scope(
+            line,
+            column,
+            ScopeCause::TopLevelOpRegionNotIsolatedFromAbove,
+        ),
         _ => TextFault::Syntax(line, column),
     }
 }

@@ -40,6 +40,7 @@ stood_closed l can says types attributes operations Named s p cs tree said stand
         fits = tree_fits says l.formats l.values types attributes operations Named HasOwnLabel s tree p stands;
         scoped = known.scoped;
         edges = known.edges;
+        isolated = known.isolated;
         shallow = known.shallow;
         bare = known.bare;
       },

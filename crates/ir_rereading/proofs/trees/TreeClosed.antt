@@ -1,5 +1,5 @@
 -- What holds of a tree holds of those that are the same but for their names and labels.
-use Rattle.std.proofs.Common.{◌≡◌, ℕ, zero, suc, Bool, true, false, List, [], ◌∷◌, map, Some, refl, sym, subst, ap, ◌∙◌, if◌then◌else◌}
+use Rattle.std.proofs.Common.{◌≡◌, ◌<◌, ℕ, zero, suc, Bool, true, false, List, [], ◌∷◌, map, Some, refl, sym, subst, ap, ◌∙◌, if◌then◌else◌}
 use Rattle.ir_print.specs.Formats.{Formats}
 use Rattle.ir_print.specs.Formats as step
 use Rattle.ir_print.specs.Pieces.{ValueTree, Values, EntityHead, operation, a_region, block, Entity, entity, Entities, no_entity, an_entity}
@@ -9,7 +9,7 @@ use Rattle.ir_print.specs.Shown.{Pairs, successors_said}
 use Rattle.ir_forest.specs.Meaning.{renamed}
 use Rattle.ir_forest.specs.Language.{Language}
 use Rattle.ir_forest.specs.Bare.{IsBareTree}
-use Rattle.ir_forest.specs.Closed.{AreIn, head_defines, head_mentions, is_isolated_head, in_scope, defined_by, all_defined, mentioned_by, all_mentioned, IsScope, IsScoped, AreScoped, IsScopedRoot, head_goes_on, blocks_within, HasEdges, HaveEdges, unlabelled, regions_said, number_in, IsOperation, AreRegions, IsRegion, AreBlocks, IsBlock, AreOperations, FitsHead, FitsTree, FitTrees, IsClosedTree}
+use Rattle.ir_forest.specs.Closed.{AreIn, head_defines, head_mentions, is_isolated_head, in_scope, defined_by, all_defined, mentioned_by, all_mentioned, IsScope, IsScoped, AreScoped, IsScopedRoot, IsIsolatedRoot, head_goes_on, blocks_within, HasEdges, HaveEdges, unlabelled, regions_said, number_in, IsOperation, AreRegions, IsRegion, AreBlocks, IsBlock, AreOperations, FitsHead, FitsTree, FitTrees, IsClosedTree}
 use Rattle.ir_print.specs.declared.format.ValueSort.TheVariants as sorts
 use Rattle.ir_rereading.proofs.trees.TreeAlike.{AlikeTyped, AlikeHead, Alike, AllAlike, pairs_append, pairs_length, pairs_first, pairs_second, alike_flip, alike_from, head_names, head_blocks, alike_among}
 
@@ -223,6 +223,12 @@ module _ {M N : Type 0} (R S : M → N → Type 0) where
       scoped_root_alike t u a p =
           (among_alike (mentioned_by isolated t) (defined_by isolated t) (mentioned_by isolated u) (defined_by isolated u) (mentioned_alike t u a) (defined_alike t u a) p.0, scoped_alike t u a false p.1)
 
+  -- ---- the root
+
+  pub isolated_root_alike : (isolated : ℕ → Bool) (t : Entity M) (u : Entity N) → Alike R S t u → IsIsolatedRoot isolated t → IsIsolatedRoot isolated u
+  isolated_root_alike isolated (entity h ts) (entity k us) a p = λ some.
+      sym (isolated_alike isolated h k a.0) ∙ p (subst (λ n. 0 < n) (sym (number_alike ts us a.1)) some)
+
   -- ---- edges
 
   module _ (one : (x : M) (y z : N) → S x y → S x z → y ≡ z) where
@@ -270,6 +276,7 @@ closed_alike R S one sole l t u a c bare = record {
   fits = fits_alike R S l.formats l.values t u a c.fits;
   scoped = scoped_root_alike R S l.isolated one t u a c.scoped;
   edges = edges_alike R S sole t u a [] [] tt c.edges;
+  isolated = isolated_root_alike R S l.isolated t u a c.isolated;
   shallow = shallow_alike R S t u a 64 c.shallow;
   bare = bare;
 }

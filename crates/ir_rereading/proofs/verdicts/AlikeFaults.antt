@@ -1,5 +1,5 @@
 -- Members that begin at the end of what was read make no fault.
-use Rattle.std.proofs.Common.{◌≡◌, ℕ, ◌+◌, ◌-◌, List, [], ◌∷◌, ◌++◌, Bool, true, false, Option, Some, None, refl, sym, subst, ap, ◌∙◌, arith, append_assoc, inl, inr}
+use Rattle.std.proofs.Common.{◌≡◌, ℕ, ◌+◌, ◌-◌, List, [], ◌∷◌, ◌++◌, Bool, true, false, Option, Some, None, slice_get, refl, sym, subst, ap, ◌∙◌, arith, append_assoc, inl, inr}
 use Rattle.ir_names.specs.Tree.{LabelledTree, Trees, node}
 use Rattle.ir_print.specs.Pieces.{Values}
 use Rattle.ir_grammar.specs.declared.grammar.Action.{Action}
@@ -13,7 +13,7 @@ use Rattle.ir_grammar.specs.Reading.{opens, depth_at, tooks, begins_member, Only
 use Rattle.ir_scopes.specs.Depth.{IsTooDeep}
 use Rattle.ir_forest.specs.Forest.{Deed, deeds, deeds_from, deeds_of, deeds_in, ending, end_of, ActionSpan, IsWholeStep, HasWholeTree}
 use Rattle.ir_forest.specs.ValueFaults.{results, HasNumberFault, HasNamesFault}
-use Rattle.ir_scopes.specs.Scopes.{EventPlace, beginning, behind, defined, mentioned, closed, labelled, label_mentioned, label_closed, each, HasNameFault, HasScopeFault}
+use Rattle.ir_scopes.specs.Scopes.{EventPlace, beginning, behind, defined, mentioned, closed, labelled, label_mentioned, label_closed, opened_below_root, each, HasNameFault, HasScopeFault}
 use Rattle.ir_rereading.specs.Texts.{HasFault}
 use Rattle.ir_formats.specs.Words.{token_text}
 use Rattle.ir_forest.specs.Language.{Language}
@@ -57,10 +57,12 @@ scopes_front isolated names a b f only (inl h) = inl (subst (λ n. HasNameFault 
     (each_front isolated defined (λ at. refl) beginning a b only)
     (each_front isolated mentioned (λ at. refl) beginning a b only)
     (each_front isolated (closed isolated) (λ at. refl) beginning a b only)) h)
-scopes_front isolated names a b f only (inr h) = inr (subst (λ n. HasNameFault names n f) (same_names
+scopes_front isolated names a b f only (inr (inl h)) = inr (inl (subst (λ n. HasNameFault names n f) (same_names
     (each_front isolated labelled (λ at. refl) beginning a b only)
     (each_front isolated label_mentioned (λ at. refl) beginning a b only)
-    (each_front isolated (label_closed isolated) (λ at. refl) beginning a b only)) h)
+    (each_front isolated (label_closed isolated) (λ at. refl) beginning a b only)) h))
+scopes_front isolated names a b f only (inr (inr h)) =
+    inr (inr (h.0, h.1, subst (λ ks. slice_get ks h.0 ≡ Some h.1) (each_front isolated opened_below_root (λ at. refl) beginning a b only) h.2, h.3))
 
 -- ---- trees
 

@@ -263,6 +263,7 @@ renumbered l cs ts names numbers stop n es r two f h = go h
     go (inr (inr (inr (inl x)))) = inr (inr (inr (inl x)))
     go (inr (inr (inr (inr (inl (inl x)))))) = inr (inr (inr (inr (inl (inl (again_named cs ts names numbers r.alike two (definitions l.isolated es) f known x))))))
     go (inr (inr (inr (inr (inl (inr x)))))) = inr (inr (inr (inr (inl (inr (lacking_named cs ts names numbers r.alike two (definitions l.isolated es) (mentions l.isolated es) (closings l.isolated es) f known named x))))))
-    go (inr (inr (inr (inr (inr (inl x)))))) = inr (inr (inr (inr (inr (inl (again_named cs ts names numbers r.alike two (labels l.isolated es) f marked x))))))
-    go (inr (inr (inr (inr (inr (inr x)))))) =
-        inr (inr (inr (inr (inr (inr (lacking_named cs ts names numbers r.alike two (labels l.isolated es) (label_mentions l.isolated es) (label_closings l.isolated es) f marked meant x))))))
+    go (inr (inr (inr (inr (inr (inl (inl x))))))) = inr (inr (inr (inr (inr (inl (inl (again_named cs ts names numbers r.alike two (labels l.isolated es) f marked x)))))))
+    go (inr (inr (inr (inr (inr (inl (inr x))))))) =
+        inr (inr (inr (inr (inr (inl (inr (lacking_named cs ts names numbers r.alike two (labels l.isolated es) (label_mentions l.isolated es) (label_closings l.isolated es) f marked meant x)))))))
+    go (inr (inr (inr (inr (inr (inr x)))))) = inr (inr (inr (inr (inr (inr x)))))

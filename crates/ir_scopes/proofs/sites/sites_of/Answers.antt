@@ -1,7 +1,7 @@
 use Rattle.std.proofs.Common.{get_or, arith}
 use Rattle.ir_grammar.specs.declared.grammar.Event.TheVariants.{Took}
-use Rattle.ir_scopes.specs.Scopes.{is_marked, defined, mentioned, closed, labelled, label_mentioned, label_closed, place_of}
-use Rattle.ir_scopes.proofs.Walks.{each_step, each_all, events_behind, same_names}
+use Rattle.ir_scopes.specs.Scopes.{is_marked, defined, mentioned, closed, labelled, label_mentioned, label_closed, opened_below_root, place_of}
+use Rattle.ir_scopes.proofs.Walks.{each_step, each_all, first_step, first_all, events_behind, same_names}
 use Rattle.ir_scopes.proofs.sites.sites_of.Goals as goal
 
 pub loop-event-preserved : goal.loop-event-preserved
@@ -23,6 +23,7 @@ loop-event-preserved c =
       labels = each_step isolated labelled at after es i Took _ _ _ c.loop-event-test.true added.walk added.labels now.labels;
       label_mentions = each_step isolated label_mentioned at after es i Took _ _ _ c.loop-event-test.true added.walk added.label_mentions now.label_mentions;
       label_closings = each_step isolated (label_closed isolated) at after es i Took _ _ _ c.loop-event-test.true added.walk added.label_closings now.label_closings;
+      root_opened = first_step isolated opened_below_root at after es i Took _ _ _ c.loop-event-test.true added.walk added.root_opened now.root_opened;
     }
 
 pub returns : goal.returns
@@ -41,4 +42,5 @@ returns c =
           (each_all isolated labelled at es i _ _ c.loop-event-test.false now.labels)
           (each_all isolated label_mentioned at es i _ _ c.loop-event-test.false now.label_mentions)
           (each_all isolated (label_closed isolated) at es i _ _ c.loop-event-test.false now.label_closings);
+      root_opened = first_all isolated opened_below_root at es i _ _ c.loop-event-test.false now.root_opened;
     }
