@@ -1,6 +1,6 @@
-//! The program and its passes, as the tests call them.
+//! The program, as the tests call it.
 use crate::fakes::{Dripping, Narrow, writer_of};
-use irkit_driver::{KitPass, Refusal, Watched, drive, run};
+use irkit_driver::{Refusal, Watched, drive};
 use std::alloc::{AllocError, Global};
 
 /// A module that holds nothing.
@@ -8,6 +8,25 @@ pub const EMPTY: &[u8] = b"builtin.module @m {^b():}";
 
 /// What is printed of it.
 pub const PRINTED: &str = "builtin.module @m \n{\n  ^b_block1v1():\n}\n";
+
+/// The sum of two constants, beside an argument that is of no use.
+pub const SUM: &[u8] = b"builtin.module @m {^b(): \
+        builtin.func @f: builtin.function <(builtin.integer i64)->(builtin.integer i64)> \
+        {^e(x: builtin.integer i64): a = builtin.constant builtin.integer <2: i64>; \
+        b = builtin.constant builtin.integer <3: i64>; s = kit.add a, b: builtin.integer i64; kit.return s}}";
+
+/// What is printed of it where constants are known, and what is dead is gone.
+pub const SUM_PRINTED: &str = "builtin.module @m \
+    \n{\
+    \n  ^b_block1v1():\
+    \n    builtin.func @f: builtin.function <(builtin.integer i64)->(builtin.integer i64)> \
+    \n    {\
+    \n      ^e_block2v1(v0: builtin.integer i64):\
+    \n        v4 = builtin.constant builtin.integer <5: i64>;\
+    \n        kit.return v4\
+    \n    }\
+    \n}\
+    \n";
 
 /// What the program did: its status, what it wrote on its output and on its faults.
 #[derive(Drop)]
@@ -87,36 +106,6 @@ pub fn does(
     Ok(driven(alloc, line, input, room, 999)?.is(status, written, told))
 }
 
-/// What was written, and behind it the fault of the answer, if there is one.
-fn said(
-    alloc: Global,
-    answer: &Result<(), Refusal>,
-    output: &Narrow,
-) -> Result<String, AllocError> {
-    let written = String::from_utf8_lossy(alloc, &output.taken)?;
-    match answer {
-        Ok(()) => Ok(written),
-        Err(refusal) => format!(in alloc; "{written}{refusal}"),
-    }
-}
-
-/// What running these passes over a text writes, and behind it the fault with which it ends, if it does.
-pub fn ran(alloc: Global, passes: &[KitPass], text: &[u8]) -> Result<String, AllocError> {
-    let mut output = writer_of(alloc, 99999, 99999, true);
-    let answer = run(alloc, passes, &mut Watched::new(text), &mut output);
-    said(alloc, &answer, output.inner())
-}
-
-/// Whether running these passes over a text writes this, or ends with this fault and writes nothing.
-pub fn runs_to(
-    alloc: Global,
-    passes: &[KitPass],
-    text: &[u8],
-    said: &str,
-) -> Result<bool, AllocError> {
-    Ok(ran(alloc, passes, text)?.as_str() == said)
-}
-
 /// Whether the answer is a fault exactly where the room is too small for a text of this length, and then says that it
 /// was full.
 fn is_answer(answer: &Result<(), Refusal>, len: usize, room: usize) -> bool {
@@ -138,31 +127,4 @@ pub fn is_written(
         && output.has_failed() == (room < text.len())
         && taken.len() == text.len().min(room)
         && text.as_bytes().starts_with(taken)
-}
-
-/// A text in which `T8` and `(C8 .. C8)` stand for a type of 8 bits and a constant of it, with these written out.
-fn written_out(alloc: Global, text: &str) -> Result<String, AllocError> {
-    let begun = text.replace(alloc, "(C8 ", "builtin.constant builtin.integer <")?;
-    let ended = begun.replace(alloc, " C8)", ": i8>")?;
-    ended.replace(alloc, "T8", "builtin.integer i8")
-}
-
-/// A module with one function of this type and body, in which `T8` and `(C8 .. C8)` stand for a type of 8 bits and a
-/// constant of it.
-pub fn function(alloc: Global, ty: &str, body: &str) -> Result<String, AllocError> {
-    let text = format!(in alloc;
-        "builtin.module @m {{^b(): builtin.func @f: builtin.function <{ty}> {{{body}}}}}"
-    )?;
-    written_out(alloc, &text)
-}
-
-/// What passes make of a module with one function of this type and body.
-pub fn optimised(
-    alloc: Global,
-    passes: &[KitPass],
-    ty: &str,
-    body: &str,
-) -> Result<String, AllocError> {
-    let text = function(alloc, ty, body)?;
-    ran(alloc, passes, text.as_bytes())
 }

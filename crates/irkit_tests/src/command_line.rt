@@ -1,6 +1,5 @@
 //! Command lines with what the program does on them.
-use crate::calls::{EMPTY, PRINTED, does, driven};
-use crate::printed::SUM;
+use crate::calls::{EMPTY, PRINTED, SUM, does, driven};
 use std::alloc::{AllocError, Global};
 
 /// A line, an input and the room of the output, with the status, what is written and what is told.

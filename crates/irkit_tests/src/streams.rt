@@ -1,8 +1,6 @@
 //! Streams that give little, take little or fail, under reading, loading, running and checking.
-use crate::calls::{EMPTY, PRINTED, is_written};
+use crate::calls::{EMPTY, PRINTED, SUM, SUM_PRINTED, is_written};
 use crate::fakes::{Dripping, writer_of};
-use crate::passes::{DCE, SCCP};
-use crate::printed::{SUM, SUM_PRINTED};
 use ir_characters::Text;
 use ir_context::Context;
 use irkit_driver::{KitPass, Refusal, Watched, check, load, run};
@@ -130,7 +128,10 @@ fn a_failed_read_writes_nothing(rt: HostRuntime) {
 type Example = (&'static [u8], &'static [KitPass], &'static str);
 
 /// A module that holds nothing, and one that passes change.
-const EXAMPLES: &[Example] = &[(EMPTY, &[], PRINTED), (SUM, &[SCCP, DCE], SUM_PRINTED)];
+const EXAMPLES: &[Example] = &[
+    (EMPTY, &[], PRINTED),
+    (SUM, &[KitPass::Sccp, KitPass::Dce], SUM_PRINTED),
+];
 
 /// Whether a module is written as far as the room allows, by writes of at most so many bytes.
 fn writes(alloc: Global, example: &Example, step: usize, room: usize, fails: bool) -> bool {

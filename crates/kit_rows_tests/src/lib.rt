@@ -1,26 +1,12 @@
-//! Tests that modules of `kit`, built by calls, keep or break the rules, run and are optimised as expected; runs of flat
-//! modules; and the table by which the texts of `kit` are read.
+//! Tests of what no text of `kit` can say: verdicts on modules that no text writes, calls that the program doesn't make, flat
+//! modules that are built by calls, and the table by which texts are read.
 #![tactic(auto)]
 
 #[cfg(test)]
 mod asserting;
 #[cfg(test)]
-mod comparing;
-#[cfg(test)]
-mod flat_modules;
-#[cfg(test)]
-mod flat_runs;
-#[cfg(test)]
-mod optimising;
-#[cfg(test)]
-mod passes;
-#[cfg(test)]
-mod playing;
+mod flat;
 #[cfg(test)]
 mod rules;
 #[cfg(test)]
-mod runs;
-#[cfg(test)]
 mod table;
-#[cfg(test)]
-mod texts;

@@ -1,83 +1,197 @@
-//! Verdicts on modules.
+//! Modules that are read and then changed, so that no text writes what they are; and a path without names.
 use crate::asserting::same;
-use crate::playing::{function_verdict, verdict};
-use crate::texts::{
-    COUNTDOWN, DECIDED, EARLY_OPERAND, ENDLESS, ENTRY_LOOP, FACTORIAL, FAR_OPERAND, FOREIGN_BLOCK,
-    NESTED, NO_BLOCK, UNKNOWN_BLOCK,
-};
-use kit_module_reader::Unread;
+use ir_characters::Characters;
+use ir_context::{BlockCalls, Context, OperationCalls, SuccessorCalls};
+use ir_program::{BasicBlock, IRNode, Operation, Ptr};
+use ir_tokens::TextFault;
+use kit::{Kit, let_go};
+use kit_execution::execute;
+use kit_flat::Outcome;
+use kit_interpreter::ExecFault;
+use kit_ops::KitOp;
+use kit_verifier::verify_module;
+use std::alloc::{AllocError, Global};
 use std::test::Fail;
+use text_reading::top_level_parse;
 
-/// A module, and the verdict on it in words.
-struct Verdict {
-    module: &'static str,
-    words: &'static str,
+/// A function with a branch, and another one.
+const MODULE: &str = "builtin.module @m {
+  ^top():
+    builtin.func @f: builtin.function <()->()> {
+      ^entry():
+        kit.br ^next();
+      ^next():
+        kit.return
+    };
+    builtin.func @g: builtin.function <()->()> {
+      ^entry():
+        kit.return
+    }
+}";
+
+/// What is done to a module that was read.
+#[derive(Clone, Copy)]
+enum Change {
+    /// Nothing.
+    Nothing,
+    /// The function stands for the module.
+    FunctionAsRoot,
+    /// The branch has no block to go on to.
+    NoSuccessor,
+    /// The branch goes on to the block of the other function.
+    ForeignSuccessor,
 }
 
-/// A value is visible in its block behind its definition, and in other blocks where it is one of the entry. A text
-/// can't say what isn't there, but a context can hold a branch that leads nowhere or out of its function. Loops, calls
-/// and modules in modules keep the rules.
-const VERDICTS: &[Verdict] = &[
-    Verdict {
-        module: FAR_OPERAND,
-        words: "rule 7 at 0.0.0.0.2.0",
-    },
-    Verdict {
-        module: EARLY_OPERAND,
-        words: "rule 7 at 0.0.0.0.0.0",
-    },
-    Verdict {
-        module: NO_BLOCK,
-        words: "rule 14 at 0.0.0.0.0.0",
-    },
-    Verdict {
-        module: FOREIGN_BLOCK,
-        words: "rule 9 at 0.0.0.0.0.0",
-    },
-    Verdict {
-        module: COUNTDOWN,
-        words: "ok",
-    },
-    Verdict {
-        module: FACTORIAL,
-        words: "ok",
-    },
-    Verdict {
-        module: NESTED,
-        words: "ok",
-    },
-    Verdict {
-        module: ENTRY_LOOP,
-        words: "ok",
-    },
-    Verdict {
-        module: ENDLESS,
-        words: "ok",
-    },
+/// What is done to the module, and the verdict on it then.
+const VERDICTS: &[(Change, &str)] = &[
+    (Change::Nothing, "ok"),
+    (Change::FunctionAsRoot, "rule 1 at root"),
+    (Change::NoSuccessor, "rule 14 at 0.0.0.0.0.0"),
+    (Change::ForeignSuccessor, "rule 9 at 0.0.0.0.0.0"),
 ];
 
-#[test]
-fn modules_have_their_verdicts(rt: HostRuntime) -> Result<(), Fail> {
-    for row in VERDICTS {
-        let words = verdict(rt.alloc(), row.module)?;
-        same(&rt, words.as_str(), row.words);
+/// Reads the module.
+fn read(alloc: Global, ctx: &mut Context<Kit>) -> Result<Ptr<Operation>, TextFault> {
+    let chars = Characters::from_str(alloc, MODULE)?;
+    top_level_parse(alloc, ctx, chars.as_text())
+}
+
+/// The first operation of a kind in another one; without one, the other one.
+fn first_of(ctx: &Context<Kit>, root: Ptr<Operation>, kind: KitOp) -> Ptr<Operation> {
+    if !root.is_live(ctx) {
+        return root;
+    }
+    for node in ctx.program().nodes_inside(IRNode::Operation(root)) {
+        match node {
+            IRNode::Operation(op) if op.is_live(ctx) && op.kind(ctx) == kind => return op,
+            _ => {}
+        }
+    }
+    root
+}
+
+/// The last block in an operation.
+fn last_block(ctx: &Context<Kit>, root: Ptr<Operation>) -> Option<Ptr<BasicBlock>> {
+    let mut last = None;
+    if !root.is_live(ctx) {
+        return last;
+    }
+    for node in ctx.program().nodes_inside(IRNode::Operation(root)) {
+        if let IRNode::BasicBlock(block) = node {
+            last = Some(block);
+        }
+    }
+    last
+}
+
+/// Takes an operation's last successor away.
+fn cut(ctx: &mut Context<Kit>, op: Ptr<Operation>) {
+    if op.is_live(ctx) {
+        op.pop_successor(ctx);
+    }
+}
+
+/// Gives an operation a successor.
+fn lead(
+    alloc: Global,
+    ctx: &mut Context<Kit>,
+    op: Ptr<Operation>,
+    block: Ptr<BasicBlock>,
+) -> Result<(), AllocError> {
+    if op.is_live(ctx) && block.is_live(ctx) {
+        op.push_successor(alloc, ctx, block)?;
     }
     Ok(())
 }
 
+/// Changes a module, and gives what stands for it then.
+fn change_in(
+    alloc: Global,
+    ctx: &mut Context<Kit>,
+    root: Ptr<Operation>,
+    change: Change,
+) -> Result<Ptr<Operation>, AllocError> {
+    let branch = first_of(ctx, root, KitOp::Br);
+    match (change, last_block(ctx, root)) {
+        (Change::FunctionAsRoot, _) => return Ok(first_of(ctx, root, KitOp::Func)),
+        (Change::NoSuccessor, _) => cut(ctx, branch),
+        (Change::ForeignSuccessor, Some(block)) => {
+            cut(ctx, branch);
+            lead(alloc, ctx, branch, block)?;
+        }
+        _ => {}
+    }
+    Ok(root)
+}
+
+/// The verdict on a module, in words.
+fn words_of(alloc: Global, ctx: &Context<Kit>, root: Ptr<Operation>) -> Result<String, AllocError> {
+    if !root.is_live(ctx) {
+        return String::from_str(alloc, "nothing");
+    }
+    match verify_module(alloc, ctx, root) {
+        Ok(()) => String::from_str(alloc, "ok"),
+        Err(fault) => format!(in alloc; "{fault}"),
+    }
+}
+
+/// The verdict on the module once it is read into a context and changed, in words.
+fn verdict_in(alloc: Global, ctx: &mut Context<Kit>, change: Change) -> Result<String, TextFault> {
+    let root = read(alloc, ctx)?;
+    let changed = change_in(alloc, ctx, root, change)?;
+    Ok(words_of(alloc, ctx, changed)?)
+}
+
+/// The verdict on the module once it is changed, in words.
+fn verdict(alloc: Global, change: Change) -> Result<String, TextFault> {
+    let mut ctx = Context::new(alloc);
+    let words = verdict_in(alloc, &mut ctx, change);
+    let_go(ctx);
+    words
+}
+
 #[test]
-fn block_that_is_not_there_is_not_read(rt: HostRuntime) -> Result<(), Fail> {
-    match verdict(rt.alloc(), UNKNOWN_BLOCK) {
-        Err(fault) => same(&rt, fault, Unread::Text),
-        Ok(_) => Err("the text was read")?,
+fn modules_that_no_text_writes_have_their_verdicts(rt: HostRuntime) -> Result<(), Fail> {
+    for (change, words) in VERDICTS {
+        same(&rt, verdict(rt.alloc(), *change)?.as_str(), *words);
     }
     Ok(())
 }
 
-/// The first rule is broken at the root itself.
+/// What a module answers at the path without names, if it keeps the rules.
+fn answer_of(
+    alloc: Global,
+    ctx: &Context<Kit>,
+    root: Ptr<Operation>,
+) -> Option<Result<Outcome, ExecFault>> {
+    if !root.is_live(ctx) {
+        return None;
+    }
+    match verify_module(alloc, ctx, root) {
+        Ok(()) => Some(execute(alloc, ctx, root, &[], &[], 9)),
+        Err(_) => None,
+    }
+}
+
+/// What the module answers at the path without names, once it is read into a context.
+fn answer_in(
+    alloc: Global,
+    ctx: &mut Context<Kit>,
+) -> Result<Option<Result<Outcome, ExecFault>>, TextFault> {
+    let root = read(alloc, ctx)?;
+    Ok(answer_of(alloc, ctx, root))
+}
+
+/// What the module answers at the path without names.
+fn answer(alloc: Global) -> Result<Option<Result<Outcome, ExecFault>>, TextFault> {
+    let mut ctx = Context::new(alloc);
+    let answer = answer_in(alloc, &mut ctx);
+    let_go(ctx);
+    answer
+}
+
 #[test]
-fn root_is_a_module(rt: HostRuntime) -> Result<(), Fail> {
-    let verdict = function_verdict(rt.alloc(), DECIDED)?;
-    same(&rt, verdict.as_str(), "rule 1 at root");
+fn path_without_names_leads_to_no_function(rt: HostRuntime) -> Result<(), Fail> {
+    same(&rt, answer(rt.alloc())?, Some(Err(ExecFault::WrongPath)));
     Ok(())
 }
