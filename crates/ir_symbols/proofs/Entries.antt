@@ -1,5 +1,5 @@
 -- Names with their operations, half way through the operations of a block.
-use Rattle.std.proofs.Common.{◌≡◌, ◌≢◌, ◌⊎◌, inl, inr, ⊎_elim, ℕ, zero, suc, ◌<◌, Bool, true, false, List, [], ◌∷◌, ◌++◌, length, Option, Some, None, IsSome, cond, slice_get, bytes_eq, refl, sym, subst, ap, ◌∙◌, true≢false, arith}
+use Rattle.std.proofs.Common.{◌≡◌, ◌⊎◌, inl, inr, ⊎_elim, ℕ, ◌<◌, Bool, true, false, List, [], ◌∷◌, ◌++◌, length, Option, Some, None, IsSome, cond, slice_get, bytes_eq, refl, sym, subst, ap, ◌∙◌, arith}
 use Rattle.std.specs.BTreeMap.{get_by_text}
 use Rattle.std.proofs.lemmas.Slice.Eq.{bytes_eq-Decides}
 use Rattle.std.proofs.lemmas.Option.{same_Some, slice_get_within}
@@ -8,9 +8,9 @@ use Rattle.ir_program.specs.Program.{Program}
 use Rattle.ir_program.specs.declared.handles.BasicBlock.{BasicBlock}
 use Rattle.ir_program.specs.declared.handles.Operation.{Operation}
 use Rattle.ir_program.specs.declared.handles.Ptr.{Ptr}
-use Rattle.ir_queries.proofs.Partway.{get-last, get-front, get-middle, moved, ended}
+use Rattle.ir_queries.proofs.Partway.{get-last, get-front, get-middle}
 use Rattle.ir_symbols.specs.Collecting.{AreSymbolsAmong, AddsSymbol, IsAmong, IsNamedAlready, IsNotCollectedBy}
-use Rattle.ir_symbols.specs.Symbols.{name_at, IsSymbolIn, HasSharedName}
+use Rattle.ir_symbols.specs.Symbols.{name_at, HasSharedName}
 use Rattle.ir_symbols.specs.Tables.{Names, SetsName, AreSymbolsOf}
 use Rattle.ir_symbols.specs.declared.errors.SymbolTableErr.{SymbolTableErr}
 use Rattle.ir_symbols.specs.declared.errors.SymbolTableErr.TheVariants as err

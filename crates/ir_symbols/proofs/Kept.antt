@@ -1,5 +1,5 @@
 -- How a table stays in step with its block.
-use Rattle.std.proofs.Common.{◌≡◌, ◌≢◌, ◌⊎◌, inl, inr, ⊎_elim, ℕ, Bool, List, [], ◌∷◌, ◌++◌, length, Option, Some, None, IsSome, option_map, option_and_then, unwrap_or, slice_get, insert, remove, refl, sym, subst, ap, ◌∙◌}
+use Rattle.std.proofs.Common.{◌≡◌, ◌≢◌, ◌⊎◌, inl, inr, ⊎_elim, ℕ, List, [], ◌∷◌, ◌++◌, length, Option, Some, None, IsSome, option_map, option_and_then, unwrap_or, slice_get, insert, remove, refl, sym, subst, ap, ◌∙◌}
 use Rattle.std.specs.BTreeMap.{get_by_text}
 use Rattle.std.proofs.lemmas.Option.{same_Some}
 use Rattle.ir_program.specs.Edits.{EditsBlock}
@@ -12,12 +12,12 @@ use Rattle.ir_program.specs.declared.handles.IRNode.TheVariants.{Operation as Op
 use Rattle.ir_program.specs.declared.handles.Operation.{Operation}
 use Rattle.ir_program.specs.declared.handles.Ptr.{Ptr}
 use Rattle.ir_queries.proofs.Partway.{get-last, get-front, get-middle}
-use Rattle.ir_symbols.specs.Insertions.{CanInsert, HasFreeName, HasOther, InsertsEntry, IsMark, PutsIn, PutsSymbol, put, stays}
-use Rattle.ir_symbols.specs.Symbols.{name_at, IsSymbolIn}
-use Rattle.ir_symbols.specs.Tables.{Agrees, AreSymbolsOf, Names, SetsName, TakesEntries, entry_at}
+use Rattle.ir_symbols.specs.Insertions.{CanInsert, InsertsEntry, IsMark, PutsIn, PutsSymbol, put, stays}
+use Rattle.ir_symbols.specs.Symbols.{name_at}
+use Rattle.ir_symbols.specs.Tables.{Agrees, AreSymbolsOf, TakesEntries}
 use Rattle.ir_symbols.specs.declared.tables.SymbolTable.{SymbolTable}
 use Rattle.ir_symbols.proofs.Entries.{set_told}
-use Rattle.ir_symbols.proofs.Members.{in_longer, still_in, put_in, in_shorter, not_taken}
+use Rattle.ir_symbols.proofs.Members.{in_longer, still_in, put_in, in_shorter, in_or_not, not_taken}
 
 -- something is there
 some_of : {A : Type 0} (o : Option A) → IsSome o → (x : A) × (o ≡ Some x)
@@ -121,9 +121,9 @@ module _ {O B : Type 0} (name_in : O → Option (List ℕ)) (c d : Program O B) 
 module _ {O B : Type 0} (name_in : O → Option (List ℕ)) (c d : Program O B) (table new : SymbolTable) (op : Ptr Operation)
     (once : StandOnce (operations_in c))
     (listed : (block : Ptr BasicBlock) (k : ℕ) (p : Ptr Operation) → slice_get (operations_in c block) k ≡ Some p → StandsInBlock c p block)
-    (apart : (p : Ptr Operation) (block : Ptr BasicBlock) → StandsInBlock c p block → StandsInside c (OperationNode p) (BlockNode block) → ⊥)
-    (s : StandsInBlock c op table.body) (erases : ErasesOperation c d op) (takes : TakesEntries table new op) (agrees : Agrees name_in c table) where
-  -- an operation beside the one that is erased isn't inside it
+    (out : StandsInside c (OperationNode op) (BlockNode table.body) → ⊥)
+    (erases : ErasesOperation c d op) (takes : TakesEntries table new op) (agrees : Agrees name_in c table) where
+  -- an operation of the block isn't inside the one that is erased
   beside : (p : Ptr Operation) → StandsInBlock c p table.body → p ≢ op → (n : IRNode) → n ≡ OperationNode p → StandsInside c (OperationNode op) n → ⊥
   beside p stands differs _ is itself = let same : p ≡ op = cc in differs same
   beside p stands differs _ is (in_region b r h w) = cc
@@ -131,38 +131,61 @@ module _ {O B : Type 0} (name_in : O → Option (List ℕ)) (c d : Program O B) 
   beside p stands differs _ is (in_block q b h w) =
       let same : q ≡ p = cc in
       let here : slice_get (operations_in c b) h.index ≡ Some p = subst (λ x. slice_get (operations_in c b) h.index ≡ Some x) same h.here in
-      apart op table.body s (subst (λ x. StandsInside c (OperationNode op) (BlockNode x)) (once p b table.body h.index stands.index here stands.here).0 w)
+      out (subst (λ x. StandsInside c (OperationNode op) (BlockNode x)) (once p b table.body h.index stands.index here stands.here).0 w)
 
   kept_operation : (p : Ptr Operation) → StandsInBlock c p table.body → p ≢ op → operation_at d p ≡ operation_at c p
   kept_operation p stands differs = erases.operations p (λ w. beside p stands differs (OperationNode p) refl w)
 
-  shorter : (operations_in d table.body ≡ remove (operations_in c table.body) s.index) × IsSome (block_at d table.body)
-  shorter = edited_list name_in c d table.body (λ xs. remove xs s.index) (erases.holder table.body s.index s.here) s.block
+  -- what is left in the block: all but the operation
+  abbrev Leaves : Type 0
+  Leaves = ((p : Ptr Operation) → StandsInBlock d p table.body → StandsInBlock c p table.body × (p ≢ op)) × ((p : Ptr Operation) → StandsInBlock c p table.body → p ≢ op → StandsInBlock d p table.body)
 
-  -- an operation that is left stood there before, and is another one
-  left : (p : Ptr Operation) → StandsInBlock d p table.body → StandsInBlock c p table.body × (p ≢ op)
-  left p h =
-      let r = in_shorter (operations_in c table.body) s.index h.index p (subst (λ xs. slice_get xs h.index ≡ Some p) shorter.0 h.here) in (
-        listed table.body r.0 p r.1,
-        λ same. r.2 (once op table.body table.body r.0 s.index (subst (λ x. slice_get (operations_in c table.body) r.0 ≡ Some x) same r.1) s.here).1,
-      )
+  -- the operation was one of the block's
+  leaves_others : StandsInBlock c op table.body → Leaves
+  leaves_others s = (left, leaves) where
+    shorter : IsSome (block_at c table.body) → (operations_in d table.body ≡ remove (operations_in c table.body) s.index) × IsSome (block_at d table.body)
+    shorter live = edited_list name_in c d table.body (λ xs. remove xs s.index) (erases.holder table.body s.index s.here) live
 
-  leaves : (p : Ptr Operation) → StandsInBlock c p table.body → p ≢ op → StandsInBlock d p table.body
-  leaves p h differs =
-      let r = not_taken (operations_in c table.body) s.index h.index op p s.here h.here differs in
-      record { operation = is_some_of _ _ (kept_operation p h differs) h.operation; block = shorter.1; index = r.0; here = subst (λ xs. slice_get xs r.0 ≡ Some p) (sym shorter.0) r.1 }
+    left : (p : Ptr Operation) → StandsInBlock d p table.body → StandsInBlock c p table.body × (p ≢ op)
+    left p h =
+        let r = in_shorter (operations_in c table.body) s.index h.index p (subst (λ xs. slice_get xs h.index ≡ Some p) (shorter s.block).0 h.here) in (
+          listed table.body r.0 p r.1,
+          λ same. r.2 (once op table.body table.body r.0 s.index (subst (λ x. slice_get (operations_in c table.body) r.0 ≡ Some x) same r.1) s.here).1,
+        )
+
+    leaves : (p : Ptr Operation) → StandsInBlock c p table.body → p ≢ op → StandsInBlock d p table.body
+    leaves p h differs =
+        let r = not_taken (operations_in c table.body) s.index h.index op p s.here h.here differs in
+        record { operation = is_some_of _ _ (kept_operation p h differs) h.operation; block = (shorter s.block).1; index = r.0; here = subst (λ xs. slice_get xs r.0 ≡ Some p) (sym (shorter s.block).0) r.1 }
+
+  -- it wasn't
+  leaves_all : ((k : ℕ) → slice_get (operations_in c table.body) k ≡ Some op → ⊥) → Leaves
+  leaves_all absent = (
+    λ p h.
+        let at : slice_get (operations_in c table.body) h.index ≡ Some p = subst (λ xs. slice_get xs h.index ≡ Some p) same_list h.here in
+        (listed table.body h.index p at, λ is. absent h.index (subst (λ x. slice_get (operations_in c table.body) h.index ≡ Some x) is at)),
+    λ p h differs. record { operation = is_some_of _ _ (kept_operation p h differs) h.operation; block = is_some_of _ _ same_block h.block; index = h.index; here = subst (λ xs. slice_get xs h.index ≡ Some p) (sym same_list) h.here },
+  ) where
+    same_block : block_at d table.body ≡ block_at c table.body
+    same_block = erases.blocks table.body out (λ s. absent s.index s.here)
+
+    same_list : operations_in d table.body ≡ operations_in c table.body
+    same_list = ap (λ (o : Option (BlockView B)). unwrap_or (option_map (λ (v : BlockView B). v.operations) o) []) same_block
+
+  what_leaves : Leaves
+  what_leaves = ⊎_elim (λ r. leaves_others (listed table.body r.0 op r.1)) leaves_all (in_or_not (operations_in c table.body) op)
 
   told : AreSymbolsOf name_in d table.body new.names
   told t p = (
     λ e.
         let r = (takes.entries t p).0 e in
         let h = (agrees t p).0 r.0 in
-        record { stands = leaves p h.stands r.1; named = same_name name_in c d table.body p (kept_operation p h.stands r.1) ∙ h.named },
+        record { stands = what_leaves.1 p h.stands r.1; named = same_name name_in c d table.body p (kept_operation p h.stands r.1) ∙ h.named },
     λ h.
-        let was = left p h.stands in
+        let was = what_leaves.0 p h.stands in
         (takes.entries t p).1 ((agrees t p).1 (record { stands = was.0; named = sym (same_name name_in c d table.body p (kept_operation p was.0 was.1)) ∙ h.named }), was.1),
   )
 
-  -- a table that was in step with its block still is, once an operation of both was taken out and erased
+  -- a table that was in step with its block still is, once an operation was taken out and erased
   pub erase_agrees : Agrees name_in d new
   erase_agrees = subst (λ b. AreSymbolsOf name_in d b new.names) (sym takes.of_same.body) told

@@ -2,6 +2,8 @@ pub mod Lists
 pub mod Places
 pub mod NamesFound
 pub mod Entries
+pub mod Handles
+pub mod Collected
 pub mod Members
 pub mod Kept
 pub mod Removed

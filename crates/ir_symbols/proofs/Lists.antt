@@ -1,5 +1,5 @@
 -- Lists of one member.
-use Rattle.std.proofs.Common.{◌≡◌, List, [], ◌∷◌, Some, None, Bool, true, false, IsTrue, length, slice_get, arith}
+use Rattle.std.proofs.Common.{◌≡◌, List, [], ◌∷◌, Some, None, Bool, false, IsTrue, length, slice_get, arith}
 
 -- a list of one member is that member alone
 pub sole : {A : Type 0} (xs : List A) (x : A) → length xs ≡ 1 → slice_get xs 0 ≡ Some x → xs ≡ x ∷ []

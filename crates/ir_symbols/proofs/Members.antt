@@ -1,6 +1,9 @@
--- Members of a list that got or lost one.
-use Rattle.std.proofs.Common.{◌≡◌, ◌≢◌, ◌⊎◌, inl, inr, ⊎_elim, ℕ, zero, suc, List, [], ◌∷◌, ◌++◌, length, Some, slice_get, insert, remove, refl, sym, ap, ◌∙◌, arith}
+-- Members of a list that got or lost one, and whether an operation is one.
+use Rattle.std.proofs.Common.{◌≡◌, ◌≢◌, ◌⊎◌, inl, inr, ⊎_elim, ℕ, zero, suc, List, [], ◌∷◌, Some, slice_get, insert, remove, refl, sym, ap, ◌∙◌, arith}
 use Rattle.std.proofs.lemmas.Option.{same_Some}
+use Rattle.ir_program.specs.declared.handles.Operation.{Operation}
+use Rattle.ir_program.specs.declared.handles.Ptr.{Ptr}
+use Rattle.ir_symbols.proofs.Handles.{same_or_not}
 
 module _ {X : Type 0} where
   -- what is in the longer list is in the shorter one, or is what was put in
@@ -40,3 +43,18 @@ module _ {X : Type 0} where
   not_taken (x ∷ xs) zero (suc i) m p at here differs = (i, here)
   not_taken (x ∷ xs) (suc k) zero m p at here differs = (zero, here)
   not_taken (x ∷ xs) (suc k) (suc i) m p at here differs = let r = not_taken xs k i m p at here differs in (suc r.0, r.1)
+
+-- the operation is in the list, or isn't
+pub in_or_not : (xs : List (Ptr Operation)) (p : Ptr Operation) → ((k : ℕ) × (slice_get xs k ≡ Some p)) ⊎ ((k : ℕ) → slice_get xs k ≡ Some p → ⊥)
+in_or_not [] p = inr (λ k at. cc)
+in_or_not (x ∷ xs) p = by (in_or_not xs p) (same_or_not x p) where
+  none : ((k : ℕ) → slice_get xs k ≡ Some p → ⊥) → x ≢ p → (k : ℕ) → slice_get (x ∷ xs) k ≡ Some p → ⊥
+  none further differs zero at = differs (same_Some x p at)
+  none further differs (suc k) at = further k at
+
+  by : ((k : ℕ) × (slice_get xs k ≡ Some p)) ⊎ ((k : ℕ) → slice_get xs k ≡ Some p → ⊥) → (x ≡ p) ⊎ (x ≢ p)
+      → ((k : ℕ) × (slice_get (x ∷ xs) k ≡ Some p)) ⊎ ((k : ℕ) → slice_get (x ∷ xs) k ≡ Some p → ⊥)
+  by further here = ⊎_elim
+      (λ is. inl (zero, ap Some is))
+      (λ differs. ⊎_elim (λ r. inl (suc r.0, r.1)) (λ no. inr (none no differs)) further)
+      here

@@ -1,5 +1,5 @@
 -- What a scan finds.
-use Rattle.std.proofs.Common.{◌≡◌, ◌≢◌, ⊎_elim, ℕ, zero, suc, Bool, true, false, List, [], ◌∷◌, ◌++◌, length, Option, Some, None, cond, slice_get, bytes_eq, refl, sym, subst, ap, ◌∙◌, true≢false}
+use Rattle.std.proofs.Common.{◌≡◌, ◌≢◌, ⊎_elim, ℕ, zero, suc, Bool, true, false, List, [], ◌∷◌, ◌++◌, Option, Some, None, cond, slice_get, bytes_eq, refl, sym, subst, ap, ◌∙◌, true≢false}
 use Rattle.std.specs.Option.{option_map_or}
 use Rattle.std.proofs.lemmas.Slice.Eq.{bytes_eq-Decides}
 use Rattle.std.proofs.lemmas.Option.{same_Some}
@@ -11,7 +11,7 @@ use Rattle.ir_program.specs.declared.handles.Ptr.{Ptr}
 use Rattle.ir_queries.proofs.Partway.{get-last}
 use Rattle.ir_symbols.specs.Collecting.{IsFirstOfName, ComesLater}
 use Rattle.ir_symbols.specs.Scans.{has_name, first_named}
-use Rattle.ir_symbols.specs.Symbols.{name_at, IsSymbolIn, HasSharedName}
+use Rattle.ir_symbols.specs.Symbols.{name_at, HasSharedName}
 
 module _ {O B : Type 0} (name_in : O → Option (List ℕ)) (c : Program O B) (name : List ℕ) where
   -- an operation has the name exactly where the name is its own

@@ -1,6 +1,6 @@
--- Entries that are taken out of a table, or are looked for, by their operation.
-use Rattle.std.proofs.Common.{◌≡◌, ◌≢◌, ⊎_elim, ℕ, zero, suc, eqb, Bool, true, false, not, ◌&&◌, List, [], ◌∷◌, length, Option, Some, None, cond, slice_get, refl, sym, subst, ap, ◌∙◌, true≢false}
-use Rattle.std.specs.BTreeMap.{BTreeMap, IsOrdered, get_by_text, is_at}
+-- Entries that are taken out of a table by their operation.
+use Rattle.std.proofs.Common.{◌≡◌, ◌≢◌, ℕ, zero, suc, ◌<◌, ◌≤◌, Bool, true, false, not, List, [], ◌∷◌, length, Some, None, cond, slice_get, refl, sym, subst, ap, ◌∙◌, true≢false, arith}
+use Rattle.std.specs.BTreeMap.{IsOrdered, get_by_text}
 use Rattle.std.specs.Cmp.Lexicographic.{slice_cmp, nat_list_cmp_total}
 use Rattle.std.specs.List.{filter, IsDistinct, AllByRecursion}
 use Rattle.std.specs.Map.{lookup, keys_of}
@@ -10,42 +10,13 @@ use Rattle.std.specs.Global.{Global}
 use Rattle.std.specs.Prelude.{String}
 use Rattle.std.specs.declared.cmp.Ordering.{Ordering}
 use Rattle.std.specs.declared.cmp.Ordering.TheVariants.{Less, Equal, Greater}
-use Rattle.std.proofs.lemmas.Bool.{eqb-true, eq-eqb}
 use Rattle.std.proofs.lemmas.Option.{same_Some}
 use Rattle.std.proofs.lemmas.Map.Entries.{place_from_lookup, btree_map_get_place}
 use Rattle.std.proofs.lemmas.Map.Keys.{IsDistinct-from_sorted, IsDistinct-head, IsDistinct-tail}
 use Rattle.ir_program.specs.declared.handles.Operation.{Operation}
 use Rattle.ir_program.specs.declared.handles.Ptr.{Ptr}
 use Rattle.ir_symbols.specs.Tables.{Names}
-
--- what `==` answers at two handles
-abbrev pub same : Ptr Operation → Ptr Operation → Bool
-same p q = eqb p.key.slot q.key.slot && eqb p.key.version q.key.version
-
-both_left : (b d : Bool) → (b && d) ≡ true → b ≡ true
-both_left true d e = refl
-both_left false d e = e
-
-both_right : (b d : Bool) → (b && d) ≡ true → d ≡ true
-both_right true d e = e
-both_right false d e = absurd (true≢false (sym e))
-
-alike : (p q : Ptr Operation) → p.key.slot ≡ q.key.slot → p.key.version ≡ q.key.version → p ≡ q
-alike p q s v = rw (s, v) refl
-
-pub same_so : (p q : Ptr Operation) → same p q ≡ true → p ≡ q
-same_so p q e = alike p q
-    (eqb-true p.key.slot q.key.slot (both_left (eqb p.key.slot q.key.slot) (eqb p.key.version q.key.version) e))
-    (eqb-true p.key.version q.key.version (both_right (eqb p.key.slot q.key.slot) (eqb p.key.version q.key.version) e))
-
-itself : (p : Ptr Operation) → same p p ≡ true
-itself p = ap (λ b. b && eqb p.key.version p.key.version) (eq-eqb p.key.slot p.key.slot refl) ∙ eq-eqb p.key.version p.key.version refl
-
-pub differ_so : (p q : Ptr Operation) → not (same p q) ≡ true → p ≢ q
-differ_so p q h is = by (same p q) (ap (λ x. same p x) (sym is) ∙ itself p) h where
-  by : (b : Bool) → b ≡ true → not b ≡ true → ⊥
-  by true t n = true≢false (sym n)
-  by false t n = true≢false (sym t)
+use Rattle.ir_symbols.proofs.Handles.{same, same_so, itself, differ_so}
 
 -- a look-up among the entries that are left, where a test finds one key at most
 module _ {K X : Type 0} (eq : K → K → Bool) (test : K → Bool) (one : (x y : K) → test x ≡ true → test y ≡ eq x y) (keep : X → Bool) where
@@ -103,29 +74,49 @@ module _ (old new : Names) (op : Ptr Operation) (ordered : IsOrdered string_cmp 
       by true e = absurd (differs (same_so p op e))
       by false e = refl
 
--- half way through the entries of a table: those that are left are found by their names, and the operation is under no name but among them
-pub record IsLeft (names : Names) (op : Ptr Operation) (rest : List (String Global × Ptr Operation)) : Type 0 where
-  pub found : (j : ℕ) (e : String Global × Ptr Operation) → slice_get rest j ≡ Some e → get_by_text names (string_bytes e.0) ≡ Some e.1
-  pub all : (name : List ℕ) → get_by_text names name ≡ Some op → (j : ℕ) × (k : String Global) × (slice_get rest j ≡ Some (k, op))
+-- what a filter takes away
+module _ {E : Type 0} (keep : E → Bool) where
+  no_longer : (es : List E) → length (filter keep es) ≤ length es
+  no_longer [] = omega arith
+  no_longer (e ∷ es) = by (keep e) (no_longer es) where
+    by : (b : Bool) → length (filter keep es) ≤ length es → length (cond b (e ∷ filter keep es) (filter keep es)) ≤ length (e ∷ es)
+    by true h = omega arith
+    by false h = omega arith
 
-pub all_left : (names : Names) (op : Ptr Operation) (rest : List (String Global × Ptr Operation)) → IsOrdered string_cmp names → rest ≡ names.entries → IsLeft names op rest
-all_left names op rest ordered is = record {
-  found = λ j e at. btree_map_get_place string_cmp_total names j e.0 e.1 ordered (subst (λ es. slice_get es j ≡ Some e) is at);
-  all = λ name h. let r = place_from_lookup (text_test name) names.entries op h in (r.0, r.1, subst (λ es. slice_get es r.0 ≡ Some (r.1, op)) (sym is) r.2);
-}
+  -- where fewer are left, one wasn't kept
+  some_lost : (es : List E) → length (filter keep es) < length es → (j : ℕ) × (e : E) × (slice_get es j ≡ Some e) × (keep e ≡ false)
+  some_lost [] h = absurd (omega arith)
+  some_lost (e ∷ es) h = by (some_lost es) (keep e) refl h where
+    by : (length (filter keep es) < length es → (j : ℕ) × (x : E) × (slice_get es j ≡ Some x) × (keep x ≡ false)) → (b : Bool) → keep e ≡ b
+        → length (cond b (e ∷ filter keep es) (filter keep es)) < length (e ∷ es) → (j : ℕ) × (x : E) × (slice_get (e ∷ es) j ≡ Some x) × (keep x ≡ false)
+    by further true k h = let r = further (omega arith) in (suc r.0, r.1, r.2, r.3)
+    by further false k h = (zero, e, refl, k)
 
-module _ (names : Names) (op : Ptr Operation) (rest next : List (String Global × Ptr Operation)) (e : String Global × Ptr Operation) (left : IsLeft names op rest) (steps : rest ≡ e ∷ next) where
-  pub is_there : e.1 ≡ op → (name : List ℕ) × (get_by_text names name ≡ Some op)
-  is_there is = (string_bytes e.0, left.found zero e (subst (λ es. slice_get es zero ≡ Some e) (sym steps) refl) ∙ ap Some is)
+  -- where one isn't kept, fewer are left
+  fewer : (es : List E) (j : ℕ) (e : E) → slice_get es j ≡ Some e → keep e ≡ false → length (filter keep es) < length es
+  fewer [] j e at lost = cc
+  fewer (x ∷ es) zero e at lost = by (keep x) (ap keep (same_Some x e at) ∙ lost) (no_longer es) where
+    by : (b : Bool) → b ≡ false → length (filter keep es) ≤ length es → length (cond b (x ∷ filter keep es) (filter keep es)) < length (x ∷ es)
+    by true n h = absurd (true≢false n)
+    by false n h = omega arith
+  fewer (x ∷ es) (suc j) e at lost = by (keep x) (fewer es j e at lost) where
+    by : (b : Bool) → length (filter keep es) < length es → length (cond b (x ∷ filter keep es) (filter keep es)) < length (x ∷ es)
+    by true h = omega arith
+    by false h = omega arith
 
-  pub one_less : e.1 ≢ op → IsLeft names op next
-  one_less differs = record {
-    found = λ j f at. left.found (suc j) f (subst (λ es. slice_get es (suc j) ≡ Some f) (sym steps) at);
-    all = λ name h. let r = left.all name h in by r.0 r.1 (subst (λ es. slice_get es r.0 ≡ Some (r.1, op)) steps r.2);
-  } where
-    by : (j : ℕ) (k : String Global) → slice_get (e ∷ next) j ≡ Some (k, op) → (i : ℕ) × (k : String Global) × (slice_get next i ≡ Some (k, op))
-    by zero k at = absurd (differs (ap (λ x. x.1) (same_Some e (k, op) at)))
-    by (suc j) k at = (j, k, at)
+true_so : (b : Bool) → not b ≡ false → b ≡ true
+true_so true h = refl
+true_so false h = absurd (true≢false h)
 
-pub is_nowhere : (names : Names) (op : Ptr Operation) (rest : List (String Global × Ptr Operation)) → IsLeft names op rest → rest ≡ [] → (name : List ℕ) → get_by_text names name ≡ Some op → ⊥
-is_nowhere names op rest left none name h = let r = left.all name h in let at : slice_get [] r.0 ≡ Some (r.1, op) = subst (λ es. slice_get es r.0 ≡ Some (r.1, op)) none r.2 in cc
+module _ (old new : Names) (op : Ptr Operation) (ordered : IsOrdered string_cmp old) (kept : new.entries ≡ filter (λ e. not (same e.1 op)) old.entries) where
+  -- a table that got shorter had the operation
+  pub was_there : length new.entries < length old.entries → (name : List ℕ) × (get_by_text old name ≡ Some op)
+  was_there h =
+      let r = some_lost (λ e. not (same e.1 op)) old.entries (subst (λ es. length es < length old.entries) kept h) in
+      (string_bytes r.1.0, btree_map_get_place string_cmp_total old r.0 r.1.0 r.1.1 ordered r.2 ∙ ap Some (same_so r.1.1 op (true_so (same r.1.1 op) r.3)))
+
+  -- one that had it got shorter
+  pub gets_shorter : (name : List ℕ) → get_by_text old name ≡ Some op → length new.entries < length old.entries
+  gets_shorter name h =
+      let r = place_from_lookup (text_test name) old.entries op h in
+      subst (λ es. length es < length old.entries) (sym kept) (fewer (λ e. not (same e.1 op)) old.entries r.0 (r.1, op) r.2 (ap not (itself op)))

@@ -4,3 +4,4 @@ pub mod Lookups
 pub mod Tables
 pub mod Collecting
 pub mod Insertions
+pub mod Collections

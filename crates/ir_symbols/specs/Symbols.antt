@@ -1,5 +1,5 @@
 -- Which operations are symbols, and which hold a symbol table.
-use Rattle.std.specs.Prelude.{◌≡◌, ◌≢◌, ℕ, Bool, true, List, [], ◌∷◌, Option, Some, IsSome, option_map, option_and_then}
+use Rattle.std.specs.Prelude.{◌≡◌, ◌≢◌, ℕ, Bool, true, List, [], ◌∷◌, Option, Some, option_map, option_and_then}
 use Rattle.ir_program.specs.Lent.{payload_at}
 use Rattle.ir_program.specs.Lists.{blocks_in, regions_in, StandsInBlock}
 use Rattle.ir_program.specs.Program.{Program}

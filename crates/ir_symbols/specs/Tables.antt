@@ -1,5 +1,5 @@
 -- What contracts see of a symbol table.
-use Rattle.std.specs.Prelude.{◌≡◌, ◌≢◌, ◌↔◌, ℕ, Bool, List, Option, Some, None, cond, bytes_eq, String}
+use Rattle.std.specs.Prelude.{◌≡◌, ◌≢◌, ◌↔◌, ℕ, Bool, List, Option, Some, cond, bytes_eq, String}
 use Rattle.std.specs.Global.{Global}
 use Rattle.std.specs.BTreeMap.{BTreeMap, get_by_text, IsUnchanged}
 use Rattle.ir_program.specs.Program.{Program}

@@ -2,6 +2,7 @@
 #![tactic(auto)]
 
 mod bodies;
+mod collections;
 mod errors;
 mod names;
 mod nearest;
@@ -11,6 +12,7 @@ mod scanning;
 mod tables;
 
 pub use bodies::single_block;
+pub use collections::SymbolTableCollection;
 pub use errors::SymbolTableErr;
 pub use nearest::{lookup_symbol, nearest_symbol_table, scan};
 pub use payload::SymbolPayload;

@@ -1,7 +1,10 @@
 //! Symbol tables.
 ghost use Rattle.std.specs.Prelude.{◌≡◌, ◌↔◌, IsSome, IsTrue, IfOk, IfErr, OnOk, OnErr};
 ghost use Rattle.ir_program.specs.Edits.{KeepsValues};
+ghost use Rattle.ir_program.specs.Erased.{ErasesOperation, IsApart};
+ghost use Rattle.ir_program.specs.Lists.{StandsInside};
 ghost use Rattle.ir_program.specs.Program.{operation_at, block_at};
+ghost use Rattle.ir_program.specs.declared.handles.IRNode.TheVariants.{Operation as OperationNode, BasicBlock as BlockNode};
 ghost use Rattle.ir_symbols.specs.Symbols.{IsTable, HasOneBlock};
 
 use crate::bodies::body_of;
@@ -10,7 +13,7 @@ use crate::names::{put_name, symbols_of};
 use crate::payload::SymbolPayload;
 use crate::placing::{can_stand_in, is_mark, put};
 use crate::scanning::{is_table, symbol_name};
-use ir_context::{TypeTable, TypedProgram};
+use ir_context::{OperationErasing, TypeTable, TypedProgram};
 use ir_program::{BasicBlock, Operation, Program, Ptr};
 use std::alloc::{AllocError, Global};
 use std::collections::BTreeMap;
@@ -29,7 +32,7 @@ pub struct SymbolTable {
 
 impl SymbolTable {
     ghost use Rattle.ir_symbols.specs.Insertions.{CanInsert, HasOther, InsertsEntry, IsRefusedBy, PutsSymbol};
-    ghost use Rattle.ir_symbols.specs.Tables.{entry_at, Agrees, IsNoTableBy, IsSameTable, IsTableOf, TakesEntries};
+    ghost use Rattle.ir_symbols.specs.Tables.{entry_at, Agrees, HasEntryOf, IsNoTableBy, IsSameTable, IsTableOf, TakesEntries};
 
     /// The table of an operation that holds one, which has one region with one block.
     ///
@@ -172,12 +175,35 @@ impl SymbolTable {
         Ok(())
     }
 
-    /// Takes an operation out of the table, under whichever names it is there. It stays where it is in the block. No memory
-    /// is asked for.
-    pub fn take_entries(&mut self, op: Ptr<Operation>)
-        ensures { TakesEntries self.old self.new op }
+    /// Takes an operation out of the table, under whichever names it is there, and tells whether it was there. It stays
+    /// where it is in the block. No memory is asked for.
+    pub fn remove(&mut self, op: Ptr<Operation>) -> bool
+        ensures had { IsTrue result ↔ HasEntryOf self.old op }
+        ensures taken { TakesEntries self.old self.new op }
     {
-        let _count = self.names.len();
+        let before = self.names.len();
         self.names.retain(|_name, symbol| *symbol != op);
+        self.names.len() < before
+    }
+
+    /// Takes an operation out of the table, under whichever names it is there, and erases it with all that is in it. No
+    /// operation outside it takes a value or goes on to a block that is inside: `can_erase` tells. No memory is asked for.
+    pub fn erase<O: SymbolPayload + Drop, B: Drop, T: TypeTable>(
+        &mut self,
+        ctx: &mut TypedProgram<O, B, T>,
+        op: Ptr<Operation>,
+    )
+        requires op { IsSome (operation_at ctx.old.program op) }
+        requires apart { IsApart ctx.old.program (OperationNode op) }
+        ensures taken { TakesEntries self.old self.new op }
+        ensures erased { ErasesOperation ctx.old.program ctx.new.program op }
+        ensures types { ctx.new.types ≡ ctx.old.types }
+        // The table itself isn't inside what is erased.
+        ensures agrees { (StandsInside ctx.old.program (OperationNode op) (BlockNode self.old.body) → ⊥)
+            → Agrees O.name_in ctx.old.program self.old → Agrees O.name_in ctx.new.program self.new }
+    {
+        ctx.program().know_lists();
+        self.remove(op);
+        op.erase(ctx);
     }
 }

@@ -1,4 +1,4 @@
-use Rattle.std.proofs.Common.{◌≡◌, ◌∷◌, ◌++◌, length, Some, slice_get, refl, sym, ap, subst, ◌∙◌, true≢false}
+use Rattle.std.proofs.Common.{◌≡◌, ◌++◌, length, Some, slice_get, refl, sym, ap, subst, ◌∙◌, true≢false}
 use Rattle.ir_program.specs.Lists.{operations_in}
 use Rattle.ir_queries.proofs.Partway.{get-middle, moved, ended}
 use Rattle.ir_symbols.proofs.NamesFound.{AreFirst, shares, one_more, shares_none}
