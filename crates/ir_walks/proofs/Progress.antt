@@ -247,19 +247,19 @@ module _ {O B : Type 0} (c : Program O B) (config : WalkConfig) where
           })
 
     -- what broke off could have gone on
-    some_closing : (e : IRNode) → (cs : List Call) × Closes e cs
+    pub some_closing : (e : IRNode) → (cs : List Call) × Closes e cs
     some_closing e = pick (level_of config e).order refl where
       pick : (o : Order) → (level_of config e).order ≡ o → (cs : List Call) × Closes e cs
       pick PreOrder p = ([], not_after p)
       pick PostOrder p = ((e, Advance) ∷ [], called_after Advance p)
 
-    some_opening : (e : IRNode) → (cs : List Call) × Opens e cs
+    pub some_opening : (e : IRNode) → (cs : List Call) × Opens e cs
     some_opening e = pick (level_of config e).order refl where
       pick : (o : Order) → (level_of config e).order ≡ o → (cs : List Call) × Opens e cs
       pick PreOrder p = ((e, Advance) ∷ [], called_before p)
       pick PostOrder p = ([], not_before p)
 
-    some_walk : (es : List IRNode) (n : ℕ) → Sized es n → (cs : List Call) × IsWalk c config es cs
+    pub some_walk : (es : List IRNode) (n : ℕ) → Sized es n → (cs : List Call) × IsWalk c config es cs
     some_walk _ _ none = ([], nothing)
     some_walk _ _ (more e es m n u v) =
         let inner = some_walk (members c config e) m u in

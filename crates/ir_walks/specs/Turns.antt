@@ -1,4 +1,4 @@
--- How a walk goes on, one turn at a time. No public clause speaks of it.
+-- How a walk goes on, one turn at a time. The clauses of the walks of this crate don't speak of it.
 use Rattle.std.specs.Prelude.{◌≡◌, ◌≢◌, ℕ, List, [], ◌∷◌, ◌++◌, Option, Some, None, slice_get}
 use Rattle.ir_program.specs.Lists.{operations_in, blocks_in, regions_in, StandsInBlock, StandsInRegion, StandsInOperation, StandsInside, StandOnce}
 use Rattle.ir_program.specs.Preorder.{nodes_inside, AreInside, IsPreorder}

@@ -8,7 +8,7 @@ pub mod interruptible;
 mod laws;
 mod lists;
 mod results;
-mod turns;
+pub mod turns;
 pub mod uninterruptible;
 mod walking;
 

@@ -1,4 +1,4 @@
-//! One turn of a walk: where it goes on.
+//! One turn of a walk: where it goes on. For crates that walk in a way of their own.
 ghost use Rattle.std.specs.Prelude.{◌≡◌, ◌∷◌, ◌++◌, ℕ, List, Some, option_map, slice_get};
 ghost use Rattle.ir_program.specs.Lists.{IsLiveNode, StandsInside};
 ghost use Rattle.ir_program.specs.Preorder.{nodes_in};
@@ -18,7 +18,7 @@ use ir_program::{BasicBlock, IRNode, Operation, Program, Ptr, Region};
 
 /// Where a walk is.
 #[derive(Clone, Copy, Debug, PartialEq, Eq)]
-pub(crate) enum Cursor {
+pub enum Cursor {
     /// Before a node and what stands in it.
     Arriving(IRNode),
     /// After what stands in a node, where the node itself may still be called.
@@ -26,7 +26,7 @@ pub(crate) enum Cursor {
 }
 
 /// The node that is called where the walk is.
-pub(crate) fn called_at(config: &WalkConfig, at: Cursor) -> Option<IRNode>
+pub fn called_at(config: &WalkConfig, at: Cursor) -> Option<IRNode>
     ensures { result ≡ called_at config.now at }
 {
     match at {
@@ -153,7 +153,7 @@ fn exit<O, B>(
 }
 
 /// Where a walk of `root` goes on, after a call that answered so, or after no call.
-pub(crate) fn go_on<O, B>(
+pub fn go_on<O, B>(
     program: &Program<O, B>,
     config: &WalkConfig,
     root: IRNode,

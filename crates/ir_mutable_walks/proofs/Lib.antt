@@ -1,0 +1,9 @@
+pub mod Stays
+pub mod OneTurn
+pub mod Passing
+pub mod Along
+pub mod SoFar
+pub mod Moved
+pub mod Kept
+pub mod PostOrders
+pub mod Ended

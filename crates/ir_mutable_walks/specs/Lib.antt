@@ -1,0 +1,4 @@
+pub mod Changes
+pub mod Ways
+pub mod Passes
+pub mod Ends
