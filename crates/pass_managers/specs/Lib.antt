@@ -1,4 +1,5 @@
 pub mod Behaviour
+pub mod Kinds
 pub mod Laws
 pub mod Running
 pub mod lawful

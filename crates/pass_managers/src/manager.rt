@@ -1,42 +1,18 @@
 //! How managers run passes.
-ghost use Rattle.std.specs.Prelude.{◌≡◌, true, IsSome, IfErr, IfOk, OnErr, OnOk};
+ghost use Rattle.std.specs.Prelude.{◌≡◌, IsSome, IfOk};
 ghost use Rattle.ir_program.specs.Program.{operation_at};
 ghost use Rattle.opt_dialect.specs.declared.status.IRStatus.TheVariants.{Unchanged};
 ghost use Rattle.pass_analyses.specs.Fresh.{AllFresh, ListedFresh};
-ghost use Rattle.pass_managers.specs.Running.{Refuses, RunsPass};
+ghost use Rattle.pass_managers.specs.Running.{RunsPass};
 ghost use Rattle.pass_outside.specs.Outside.{LeavesOutside};
 
 use crate::pass::Pass;
+use crate::verifying::verify_if;
 use ir_program::{Operation, Ptr};
 use opt_dialect::OptError;
 use pass_analyses::{Analysis, AnalysisManager, PassResult, Verified, VerifiedContext};
 use pass_outside::know_sound;
 use std::alloc::Global;
-
-/// Verifies an operation, where that is wanted.
-fn verify_if<D: Verified>(
-    alloc: Global,
-    is_wanted: bool,
-    op: Ptr<Operation>,
-    ctx: &VerifiedContext<D>,
-) -> Result<(), OptError>
-    requires { IsSome (operation_at ctx.now.program op) }
-    ensures accepted { OnOk result (is_wanted ≡ true → D.accepts ctx.now op) }
-    ensures wanted { OnErr result (is_wanted ≡ true) }
-    ensures refused { IfErr result (λ e. Refuses (D.accepts ctx.now op) e) }
-{
-    if !is_wanted {
-        return Ok(());
-    }
-    match D::verify(alloc, op, ctx) {
-        Ok(()) => Ok(()),
-        Err(fault) => Err(if D::is_memory(&fault) {
-            OptError::Memory
-        } else {
-            OptError::Verify
-        }),
-    }
-}
 
 /// Runs a pass at an operation, as told by the settings.
 fn run_as_told<D: Verified, E: Analysis<Dialect = D>, P: Pass<D, E>>(

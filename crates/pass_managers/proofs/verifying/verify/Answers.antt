@@ -1,7 +1,7 @@
 use Rattle.std.proofs.Common.{sym, ◌∙◌}
 use Rattle.pass_managers.specs.Running.{not_accepted, not_told}
-use Rattle.pass_managers.proofs.manager.verify_if.Goals.{then-is_memory, else-is_memory}
-use Rattle.pass_managers.proofs.manager.verify_if.Goals as goal
+use Rattle.pass_managers.proofs.verifying.verify.Goals.{then-is_memory, else-is_memory}
+use Rattle.pass_managers.proofs.verifying.verify.Goals as goal
 
 pub returns-after-is_memory-clause-refused : goal.returns-after-is_memory-clause-refused
 returns-after-is_memory-clause-refused g c =
