@@ -1,6 +1,6 @@
 -- The faults that are met at ends, in the order of the tokens.
 use Rattle.std.proofs.Common.{◌≡◌, ◌==◌, if◌then◌else◌, ◌<◌, ◌≤◌, ℕ, ◌+◌, ◌-◌, Bool, true, false, MatchBool, List, [], ◌∷◌, length, Option, Some, None, refl, sym, subst, ap, ◌∙◌, arith, ◌⊎◌, inl, inr}
-use Rattle.std.specs.Option.{option_map_or}
+use Rattle.std.specs.Option.{option_map}
 use Rattle.std.proofs.lemmas.Bool.{cases_lt, eqb-true, eqb-false}
 use Rattle.ir_names.specs.Tree.{Trees, node, no_tree, a_tree, join}
 use Rattle.ir_print.specs.Pieces.{Pieces, Values}
@@ -14,8 +14,8 @@ use Rattle.ir_tokens.specs.Faults.{row, FaultPrecedes, IsNamed}
 use Rattle.ir_forest.specs.Forest.{end_of, Deed, deeds_from, ActionSpan}
 use Rattle.ir_forest.specs.Meaning.{pieces_in}
 use Rattle.ir_grammar.specs.Nesting.{Position, at_root, at_end, in_region, in_block, Move, goes_to, goes_in, goes_out, nowhere, move, region_move, block_move, Nests, NestsBy, has_own_token, FollowTokens}
-use Rattle.ir_forest.specs.ValueFaults.{refused, piece_token, first_token, AreSound}
-use Rattle.ir_forest.specs.Building.{Open, Built, ended_tree, after, names_behind, number_fault, names_fault_of, or_else, fault_at_end, fault_after, first_refusal_from}
+use Rattle.ir_forest.specs.ValueFaults.{refused, refusal_kind, piece_token, first_token, AreSound}
+use Rattle.ir_forest.specs.Building.{Open, Built, ended_tree, after, names_behind, refused_fault, names_fault_of, or_else, fault_at_end, fault_after, first_refusal_from}
 use Rattle.ir_tokens.proofs.FirstFault.{precedes_itself, named_along}
 use Rattle.ir_forest.proofs.BuiltSteps.{Sort, alone, opening, closing, sort_of, end_sort, end_at, Behind, Says, says, Follows, Fits, step}
 use Rattle.ir_forest.proofs.BuiltTrees.{Way, AllBefore, AllBuilt}
@@ -80,6 +80,7 @@ end_fault values text act.BeginOperands first before here os a k h = let e : act
 end_fault values text act.BeginSuccessor first before here os a k h = let e : act.EndSuccessor ≡ a = cc in rw (← e)
 end_fault values text act.BeginList first before here os a k h = let e : act.EndList ≡ a = cc in rw (← e)
 end_fault values text act.BeginItem first before here os a k h = let e : act.EndItem ≡ a = cc in rw (← e)
+end_fault values text (act.BeginChoice n) first before here os a k h = let e : act.EndChoice ≡ a = cc in rw (← e)
 end_fault values text _ first before here os a k h = cc
 
 -- ---- behind an operation
@@ -132,8 +133,8 @@ operation_ends X p a nowhere ps os fits s e h = absurd h
 module _ (values : Values) (text : ℕ → List ℕ) where
   -- ---- the faults at one end
 
-  abbrev number_at : ℕ → ℕ → Fault
-  number_at k j = record { kind = kinds.Number; met = k; place = j }
+  abbrev number_at : Action → ℕ → ℕ → Fault
+  number_at a k j = record { kind = refusal_kind a; met = k; place = j }
 
   abbrev names_at : ℕ → ℕ → Fault
   names_at k j = record { kind = kinds.ResultNames; met = k; place = j }
@@ -143,7 +144,7 @@ module _ (values : Values) (text : ℕ → List ℕ) where
   Results here o kind = length (names_behind [] o.before) ≡ length (values.result_types kind (pieces_in values text here))
 
   abbrev pub NumberAt : Trees ActionSpan → Open → ℕ → Fault → Type 0
-  NumberAt here o k f = (i : ℕ) × AreSound values text here × (refused values o.action (pieces_in values text here) ≡ Some i) × (f ≡ number_at k (piece_token here i k))
+  NumberAt here o k f = (i : ℕ) × AreSound values text here × (refused values o.action (pieces_in values text here) ≡ Some i) × (f ≡ number_at o.action k (piece_token here i k))
 
   abbrev pub NamesAt : Trees ActionSpan → Open → ℕ → Fault → Type 0
   NamesAt here o k f = (kind : ℕ) × (o.action ≡ act.Operation kind) × (Results here o kind → ⊥)
@@ -186,11 +187,11 @@ module _ (values : Values) (text : ℕ → List ℕ) where
   -- ---- which faults what ends has
 
   abbrev CaseNumber : Trees ActionSpan → Open → List Open → ℕ → Type 0
-  CaseNumber here o os k = (i : ℕ) × (refused values o.action (pieces_in values text here) ≡ Some i)
-      × (fault_at_end values text here (o ∷ os) k ≡ Some (number_at k (piece_token here i k)))
+  CaseNumber here o os k = (i : ℕ) × (refused values o.action (pieces_in values text here) ≡ Some i) × ((kind : ℕ) → o.action ≡ act.Operation kind → Results here o kind)
+      × (fault_at_end values text here (o ∷ os) k ≡ Some (number_at o.action k (piece_token here i k)))
 
   abbrev CaseNames : Trees ActionSpan → Open → List Open → ℕ → Type 0
-  CaseNames here o os k = (kind : ℕ) × (refused values o.action (pieces_in values text here) ≡ None) × (o.action ≡ act.Operation kind) × (Results here o kind → ⊥)
+  CaseNames here o os k = (kind : ℕ) × (o.action ≡ act.Operation kind) × (Results here o kind → ⊥)
       × (fault_at_end values text here (o ∷ os) k ≡ Some (names_at k (first_token (names_behind [] o.before) o.first)))
 
   abbrev CaseNone : Trees ActionSpan → Open → List Open → ℕ → Type 0
@@ -215,34 +216,39 @@ module _ (values : Values) (text : ℕ → List ℕ) where
   names_case _ first before here k = inr ((λ kind same. cc), refl)
 
   end_case : (here : Trees ActionSpan) (o : Open) (os : List Open) (k : ℕ) → CaseNumber here o os k ⊎ (CaseNames here o os k ⊎ CaseNone here o os k)
-  end_case here o os k = go (refused values o.action (pieces_in values text here)) refl
+  end_case here o os k = go (names_case o.action o.first o.before here k) (refused values o.action (pieces_in values text here)) refl
     where
-      by : Option ℕ → Option Fault
-      by z = option_map_or (λ i. number_fault here k i) z (names_fault_of values text o.action o.first o.before here k)
+      by : Option Fault → Option ℕ → Option Fault
+      by names z = or_else names (option_map (refused_fault o.action here k) z)
 
-      go : (r : Option ℕ) → refused values o.action (pieces_in values text here) ≡ r → CaseNumber here o os k ⊎ (CaseNames here o os k ⊎ CaseNone here o os k)
-      go (Some i) e = inl (i, e, ap by e)
-      go None e = elim (names_case o.action o.first o.before here k) [
-        | inl x ↦ inr (inl (x.0, e, x.1, x.2, ap by e ∙ x.3))
-        | inr x ↦ inr (inr (e, x.0, ap by e ∙ x.1))
-      ]
+      go : ((kind : ℕ) × (o.action ≡ act.Operation kind) × (Results here o kind → ⊥)
+          × (names_fault_of values text o.action o.first o.before here k ≡ Some (names_at k (first_token (names_behind [] o.before) o.first))))
+          ⊎ (((kind : ℕ) → o.action ≡ act.Operation kind → Results here o kind) × (names_fault_of values text o.action o.first o.before here k ≡ None))
+          → (r : Option ℕ) → refused values o.action (pieces_in values text here) ≡ r → CaseNumber here o os k ⊎ (CaseNames here o os k ⊎ CaseNone here o os k)
+      go (inl x) r e = inr (inl (x.0, x.1, x.2, ap (λ names. by names (refused values o.action (pieces_in values text here))) x.3))
+      go (inr x) (Some i) e = inl (i, e, x.0, ap (λ names. by names (refused values o.action (pieces_in values text here))) x.1 ∙ ap (by None) e)
+      go (inr x) None e = inr (inr (e, x.0, ap (λ names. by names (refused values o.action (pieces_in values text here))) x.1 ∙ ap (by None) e))
 
   -- ---- of two faults at one end
 
-  number_first : (here : Trees ActionSpan) (o : Open) (os : List Open) (d : Deed) → (c : CaseNumber here o os d.1) → (g : Fault) → HasAt here (o ∷ os) d g → FaultPrecedes (number_at d.1 (piece_token here c.0 d.1)) g
+  number_first : (here : Trees ActionSpan) (o : Open) (os : List Open) (d : Deed) → (c : CaseNumber here o os d.1) → (g : Fault) → HasAt here (o ∷ os) d g → FaultPrecedes (number_at o.action d.1 (piece_token here c.0 d.1)) g
   number_first here o os d c g h = elim (h.1) [
     | inl x ↦ (
         let one : Some c.0 ≡ Some x.0 = sym c.1 ∙ x.2 in
         let i : c.0 ≡ x.0 = cc in
-        let r : Fault = number_at d.1 (piece_token here c.0 d.1) in
-        subst (FaultPrecedes r) (ap (λ z. number_at d.1 (piece_token here z d.1)) i ∙ sym x.3) (precedes_itself r))
-    | inr x ↦ subst (FaultPrecedes (number_at d.1 (piece_token here c.0 d.1))) (sym x.3) (inr (refl, inl (omega arith)))
+        let r : Fault = number_at o.action d.1 (piece_token here c.0 d.1) in
+        subst (FaultPrecedes r) (ap (λ z. number_at o.action d.1 (piece_token here z d.1)) i ∙ sym x.3) (precedes_itself r))
+    | inr x ↦ absurd (x.2 (c.2 x.0 x.1))
   ]
 
   names_first : (here : Trees ActionSpan) (o : Open) (os : List Open) (d : Deed) → CaseNames here o os d.1 → (g : Fault) → HasAt here (o ∷ os) d g
       → FaultPrecedes (names_at d.1 (first_token (names_behind [] o.before) o.first)) g
   names_first here o os d c g h = elim (h.1) [
-    | inl x ↦ (let wrong : None ≡ Some x.0 = sym c.1 ∙ x.2 in cc)
+    | inl x ↦ (
+        let later : refusal_kind o.action ≡ kinds.OtherConstant = ap refusal_kind c.1 in
+        let other : Fault = record { kind = kinds.OtherConstant; met = d.1; place = piece_token here x.0 d.1 } in
+        let is : g ≡ other = x.3 ∙ ap (λ z. record { kind = z; met = d.1; place = piece_token here x.0 d.1 }) later in
+        subst (FaultPrecedes (names_at d.1 (first_token (names_behind [] o.before) o.first))) (sym is) (inr (refl, inl (omega arith))))
     | inr x ↦ subst (FaultPrecedes (names_at d.1 (first_token (names_behind [] o.before) o.first))) (sym x.3) (precedes_itself (names_at d.1 (first_token (names_behind [] o.before) o.first)))
   ]
 
@@ -364,12 +370,17 @@ module _ (values : Values) (text : ℕ → List ℕ) where
   closing_fault : (b : Built) (o : Open) (os : List Open) (a : Action) (k : ℕ) → b.around ≡ o ∷ os → end_of o.action ≡ Some a → fault_after values text b a k ≡ fault_at_end values text b.here (o ∷ os) k
   closing_fault b o os a k e h = ap (λ z. fault_after values text (record { here = b.here; around = z }) a k) e ∙ end_fault values text o.action o.first o.before b.here os a k h
 
-  number_precedes : (k j : ℕ) (g : Fault) → Later (k + 1) g → FaultPrecedes (number_at k j) g
-  number_precedes k j g (inl h) = inl (omega arith)
-  number_precedes k j g (inr h) = inr (omega arith, inl (omega (arith, h.1)))
+  number_precedes : (a : Action) (k j : ℕ) (g : Fault) → refusal_kind a ≡ kinds.Number → Later (k + 1) g → FaultPrecedes (number_at a k j) g
+  number_precedes a k j g e (inl h) = inl (omega arith)
+  number_precedes a k j g e (inr h) = let first : row (refusal_kind a) ≡ 1 = ap row e in inr (omega arith, inl (omega (arith, h.1, first)))
 
-  before_later : (k j : ℕ) (g : Fault) → k + 1 ≤ g.met → FaultPrecedes (names_at k j) g
-  before_later k j g h = inl (omega arith)
+  -- what is refused is an operation, or a value
+  operation_or_value : (a : Action) → ((kind : ℕ) × (a ≡ act.Operation kind)) ⊎ (refusal_kind a ≡ kinds.Number)
+  operation_or_value (act.Operation kind) = inl (kind, refl)
+  operation_or_value _ = inr refl
+
+  before_later : (f g : Fault) → f.met + 1 ≤ g.met → FaultPrecedes f g
+  before_later f g h = inl (omega arith)
 
   step_sound : (b : Built) (d : Deed) (c : Built) → Way b d c → ((o : Open) (os : List Open) → b.around ≡ o ∷ os → end_of o.action ≡ Some d.0 → refused values o.action (pieces_in values text b.here) ≡ None) → Sound b → Sound c
   step_sound b d c (inl w) r h =
@@ -409,21 +420,29 @@ module _ (values : Values) (text : ℕ → List ℕ) where
           out : (g : Fault) → HasAt b.here (w.0 ∷ w.1) d g → HasAt b.here b.around d g
           out g h = subst (λ z. HasAt b.here z d g) (sym w.2) h
 
+          -- behind an operation that is refused all is met later
+          operation_later : (kind : ℕ) → (w.0).action ≡ act.Operation kind → (g : Fault) → Somewhere (after b d.0 d.1) ds g → d.1 + 1 ≤ g.met
+          operation_later kind is g h =
+              let same : Some act.EndOperation ≡ Some d.0 = ap end_of (sym is) ∙ w.3 in
+              let ends : d.0 ≡ act.EndOperation = cc in
+              let calm = operation_ends (λ q qs. Follows q qs ds) p d.0 (move p d.0) ps b.around fits (says p d.0) ends f in
+              later_calm ds calm.0 calm.1 (after b d.0 d.1) (d.1 + 1) calm.2 calm.3 grow.2 g h
+
           cases : CaseNumber b.here w.0 w.1 d.1 ⊎ (CaseNames b.here w.0 w.1 d.1 ⊎ CaseNone b.here w.0 w.1 d.1) → IsNamed (Somewhere b (d ∷ ds)) (refusal b (d ∷ ds))
           cases (inl n) =
-              let r = number_at d.1 (piece_token b.here n.0 d.1) in
+              let r = number_at (w.0).action d.1 (piece_token b.here n.0 d.1) in
               let tree : Trees ActionSpan = a_tree (ended_tree (w.0) b.here d.1) no_tree in
               let bad : RefusedIn (after b d.0 d.1) = subst RefusedIn (sym w.4) (refused_here (join (w.0).before tree) w.1
               (λ s. let wrong : Some n.0 ≡ None = sym n.1 ∙ (sound_back (w.0).before tree s).0 in cc)) in
-              found b d ds r (fault ∙ n.2) (out r (w.3, inl (n.0, sound.0, n.1, refl))) (λ g h. number_first b.here w.0 w.1 d n g (into g h))
-              (λ g h. number_precedes d.1 (piece_token b.here n.0 d.1) g (later_refused ds q qs (after b d.0 d.1) (d.1 + 1) fits' f' grow.2 bad g h))
+              found b d ds r (fault ∙ n.3) (out r (w.3, inl (n.0, sound.0, n.1, refl))) (λ g h. number_first b.here w.0 w.1 d n g (into g h))
+              (λ g h. elim (operation_or_value (w.0).action) [
+                | inl x ↦ before_later r g (operation_later x.0 x.1 g h)
+                | inr x ↦ number_precedes (w.0).action d.1 (piece_token b.here n.0 d.1) g x (later_refused ds q qs (after b d.0 d.1) (d.1 + 1) fits' f' grow.2 bad g h)
+              ])
           cases (inr (inl n)) =
               let r = names_at d.1 (first_token (names_behind [] (w.0).before) (w.0).first) in
-              let same : Some act.EndOperation ≡ Some d.0 = ap end_of (sym n.2) ∙ w.3 in
-              let ends : d.0 ≡ act.EndOperation = cc in
-              let calm = operation_ends (λ q qs. Follows q qs ds) p d.0 (move p d.0) ps b.around fits (says p d.0) ends f in
-              found b d ds r (fault ∙ n.4) (out r (w.3, inr (n.0, n.2, n.3, refl))) (λ g h. names_first b.here w.0 w.1 d n g (into g h))
-              (λ g h. before_later d.1 (first_token (names_behind [] (w.0).before) (w.0).first) g (later_calm ds calm.0 calm.1 (after b d.0 d.1) (d.1 + 1) calm.2 calm.3 grow.2 g h))
+              found b d ds r (fault ∙ n.3) (out r (w.3, inr (n.0, n.1, n.2, refl))) (λ g h. names_first b.here w.0 w.1 d n g (into g h))
+              (λ g h. before_later r g (operation_later n.0 n.1 g h))
           cases (inr (inr n)) =
               quiet b d ds (fault ∙ n.2) (λ g h. none_here b.here w.0 w.1 d n g (into g h))
               (ih (step_sound b d (after b d.0 d.1) (inr (inr w)) (λ o os e h.

@@ -2,11 +2,11 @@
 use Rattle.std.proofs.Common.{◌≡◌, ℕ, ◌+◌, ◌-◌, true, false, List, [], ◌∷◌, Option, Some, None, refl, sym, subst, ap, ◌∙◌, ◌⊎◌, inl, inr}
 use Rattle.ir_names.specs.Tree.{Trees}
 use Rattle.ir_grammar.specs.declared.grammar.Action.{Action}
-use Rattle.ir_grammar.specs.declared.grammar.Action.TheVariants.{Result, Operation, EndOperation, BeginRegion, EndRegion, Label, Argument, Header, EndBlock, Begin, End, Leaf, BeginOperands, Operand, EndOperands, BeginSuccessor, EndSuccessor, BeginList, BeginItem, EndItem, EndList}
+use Rattle.ir_grammar.specs.declared.grammar.Action.TheVariants.{Result, Operation, EndOperation, BeginRegion, EndRegion, Label, Argument, Header, EndBlock, Begin, End, Leaf, BeginOperands, Operand, EndOperands, BeginSuccessor, EndSuccessor, BeginList, BeginItem, EndItem, EndList, BeginChoice, EndChoice}
 use Rattle.ir_grammar.specs.declared.grammar.Event.{Event}
 use Rattle.ir_grammar.specs.declared.grammar.Event.TheVariants.{Took, Did}
 use Rattle.ir_forest.specs.Forest.{end_of, is_end, Deed, deeds_from, ActionSpan}
-use Rattle.ir_grammar.specs.Nesting.{Position, at_root, behind_root_results, at_end, in_operation, in_operands, in_successor, in_region, in_header, in_argument, in_block, behind_results, in_value, in_list, in_item, Move, goes_to, goes_in, goes_out, nowhere, move, piece_move, Nests, NestsBy}
+use Rattle.ir_grammar.specs.Nesting.{Position, at_root, behind_root_results, at_end, in_operation, in_operands, in_successor, in_region, in_header, in_argument, in_block, behind_results, in_value, in_list, in_item, in_choice, Move, goes_to, goes_in, goes_out, nowhere, move, piece_move, Nests, NestsBy}
 use Rattle.ir_forest.specs.Building.{Open, Built, behind, ended_tree, with_end, with_begin, with_leaf, after, built_from}
 use Rattle.ir_print.specs.declared.format.ValueSort.TheVariants as sorts
 use Rattle.ir_forest.specs.Progress.{run}
@@ -39,6 +39,8 @@ sort_of BeginList = opening
 sort_of BeginItem = opening
 sort_of EndItem = closing
 sort_of EndList = closing
+sort_of (BeginChoice n) = opening
+sort_of EndChoice = closing
 
 abbrev pub after_by : Sort → Built → Action → ℕ → Built
 after_by alone b a k = with_leaf b a k
@@ -69,6 +71,7 @@ ends_by EndOperands = (refl, refl)
 ends_by EndSuccessor = (refl, refl)
 ends_by EndItem = (refl, refl)
 ends_by EndList = (refl, refl)
+ends_by EndChoice = (refl, refl)
 ends_by _ = (_, refl)
 
 -- what ends something is a closing action
@@ -81,6 +84,7 @@ end_sort BeginOperands a h = let e : EndOperands ≡ a = cc in rw (← e)
 end_sort BeginSuccessor a h = let e : EndSuccessor ≡ a = cc in rw (← e)
 end_sort BeginList a h = let e : EndList ≡ a = cc in rw (← e)
 end_sort BeginItem a h = let e : EndItem ≡ a = cc in rw (← e)
+end_sort (BeginChoice n) a h = let e : EndChoice ≡ a = cc in rw (← e)
 end_sort _ a h = cc
 
 -- ---- where reading is, and what is open
@@ -101,6 +105,7 @@ end_at behind_results = Some EndBlock
 end_at (in_value sort) = Some (End sort)
 end_at in_list = Some EndList
 end_at in_item = Some EndItem
+end_at in_choice = Some EndChoice
 
 -- where reading may be behind an operation, and behind a block
 abbrev pub Behind : Option Action → Position → Type 0
@@ -119,6 +124,7 @@ piece_says : (p : Position) (a : Action) → Says p a (piece_move p a)
 piece_says p (Leaf sort) = (refl, refl)
 piece_says p (Begin sort kind) = (refl, refl, refl, tt)
 piece_says p BeginList = (refl, refl, refl, tt)
+piece_says p (BeginChoice n) = (refl, refl, refl, tt)
 piece_says p _ = tt
 
 operation_says : (a : Action) → Says in_operation a (move in_operation a)
@@ -185,6 +191,10 @@ item_says : (a : Action) → Says in_item a (move in_item a)
 item_says EndItem = (refl, refl)
 item_says a = piece_says in_item a
 
+choice_says : (a : Action) → Says in_choice a (move in_choice a)
+choice_says EndChoice = (refl, refl)
+choice_says a = piece_says in_choice a
+
 list_says : (a : Action) → Says in_list a (move in_list a)
 list_says EndList = (refl, refl)
 list_says BeginItem = (refl, refl, refl, tt)
@@ -206,6 +216,7 @@ says (in_value sorts.«Type») a = type_says a
 says (in_value sorts.Attribute) a = attribute_says a
 says in_list a = list_says a
 says in_item a = item_says a
+says in_choice a = choice_says a
 
 -- ---- reading by deeds
 

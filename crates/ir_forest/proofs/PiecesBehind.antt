@@ -1,12 +1,13 @@
 -- What one more tree adds to the pieces, the tokens and the names of others.
-use Rattle.std.proofs.Common.{◌≡◌, ℕ, zero, suc, List, [], ◌∷◌, ◌++◌, Some, None, slice_get, refl, ap, ◌∙◌}
+use Rattle.std.proofs.Common.{◌≡◌, ℕ, suc, List, [], ◌∷◌, ◌++◌, refl, sym, ap, ◌∙◌}
+use Rattle.std.proofs.lemmas.List.{append_assoc, append-nil}
 use Rattle.ir_names.specs.Tree.{LabelledTree, Trees, node, no_tree, a_tree, join, count}
 use Rattle.ir_print.specs.Pieces.{Pieces, Values}
 use Rattle.ir_grammar.specs.declared.grammar.Action.{Action}
 use Rattle.ir_grammar.specs.declared.grammar.Action.TheVariants as act
 use Rattle.ir_forest.specs.Forest.{ActionSpan}
 use Rattle.ir_forest.specs.Meaning.{with_piece, pieces_in, tokens_in}
-use Rattle.ir_forest.specs.ValueFaults.{piece_token}
+use Rattle.ir_forest.specs.ValueFaults.{tokens_at, part_tokens}
 use Rattle.ir_forest.specs.Building.{behind, names_behind, with_name}
 
 -- a step's piece stands before the others, whatever these are
@@ -33,6 +34,8 @@ piece_before values act.BeginList cs many ts rest more = refl
 piece_before values act.BeginItem cs many ts rest more = refl
 piece_before values act.EndItem cs many ts rest more = refl
 piece_before values act.EndList cs many ts rest more = refl
+piece_before values (act.BeginChoice n) cs many ts rest more = refl
+piece_before values act.EndChoice cs many ts rest more = refl
 
 -- the pieces of trees with one more behind them
 pub pieces_behind : (values : Values) (text : ℕ → List ℕ) (ts : Trees ActionSpan) (s : ActionSpan) (us : Trees ActionSpan)
@@ -54,13 +57,9 @@ pub count_behind : (ts : Trees ActionSpan) (t : LabelledTree ActionSpan) → cou
 count_behind no_tree t = refl
 count_behind (a_tree u ts) t = ap suc (count_behind ts t)
 
--- the token of a step by its number, or the end where there is no such step
-pub piece_token_there : (ts : Trees ActionSpan) (i k last : ℕ) → slice_get (tokens_in ts) i ≡ Some k → piece_token ts i last ≡ k
-piece_token_there no_tree i k last h = cc
-piece_token_there (a_tree (node s us) ts) zero k last h = cc
-piece_token_there (a_tree (node s us) ts) (suc i) k last h = piece_token_there ts i k last h
-
-pub piece_token_none : (ts : Trees ActionSpan) (i last : ℕ) → slice_get (tokens_in ts) i ≡ None → piece_token ts i last ≡ last
-piece_token_none no_tree i last h = refl
-piece_token_none (a_tree (node s us) ts) zero last h = cc
-piece_token_none (a_tree (node s us) ts) (suc i) last h = piece_token_none ts i last h
+-- the tokens of parts with those of one more step behind them
+pub parts_behind : (ts : Trees ActionSpan) (s : ActionSpan) (us : Trees ActionSpan) → part_tokens (behind ts (node s us)) ≡ part_tokens ts ++ tokens_at s.action s.first (part_tokens us)
+parts_behind no_tree s us = append-nil (tokens_at s.action s.first (part_tokens us))
+parts_behind (a_tree (node r rs) ts) s us =
+    ap (λ ks. tokens_at r.action r.first (part_tokens rs) ++ ks) (parts_behind ts s us)
+    ∙ sym (append_assoc (tokens_at r.action r.first (part_tokens rs)) (part_tokens ts) (tokens_at s.action s.first (part_tokens us)))

@@ -1,7 +1,7 @@
 -- Which trees have nothing below operands, edges, regions and leaves.
 use Rattle.std.specs.Prelude.{◌≡◌, ℕ, List, [], ◌∷◌}
 use Rattle.ir_names.specs.Tree.{node, no_tree, a_tree}
-use Rattle.ir_print.specs.Pieces.{value_of_kind, list, item, operands, successor, region, leaf, ValueTree, Pieces, Values, EntityHead, operation, a_region, block, Entity, entity, Entities, no_entity, an_entity}
+use Rattle.ir_print.specs.Pieces.{value_of_kind, list, item, chosen, operands, successor, region, leaf, ValueTree, Pieces, Values, EntityHead, operation, a_region, block, Entity, entity, Entities, no_entity, an_entity}
 
 abbrev mutual
   -- nothing stands below what has no pieces of its own
@@ -9,6 +9,7 @@ abbrev mutual
   IsBare (node (value_of_kind sort n) ts) = AreBare ts
   IsBare (node list ts) = AreBare ts
   IsBare (node item ts) = AreBare ts
+  IsBare (node (chosen n) ts) = AreBare ts
   IsBare (node (operands n) ts) = ts ≡ no_tree
   IsBare (node (successor n) ts) = ts ≡ no_tree
   IsBare (node region ts) = ts ≡ no_tree

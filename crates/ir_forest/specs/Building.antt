@@ -1,6 +1,6 @@
 -- How far the trees of a text are built.
 use Rattle.std.specs.Prelude.{ℕ, ◌+◌, ◌-◌, ◌==◌, List, [], ◌∷◌, ◌++◌, length, Option, Some, None, if◌then◌else◌}
-use Rattle.std.specs.Option.{option_map_or}
+use Rattle.std.specs.Option.{option_map}
 use Rattle.ir_names.specs.Tree.{LabelledTree, Trees, node, no_tree, a_tree, join}
 use Rattle.ir_print.specs.Pieces.{Values}
 use Rattle.ir_grammar.specs.declared.grammar.Action.{Action}
@@ -11,7 +11,7 @@ use Rattle.ir_tokens.specs.declared.faults.Fault.{Fault}
 use Rattle.ir_tokens.specs.declared.faults.FaultKind.TheVariants as kinds
 use Rattle.ir_forest.specs.Forest.{ActionSpan}
 use Rattle.ir_forest.specs.Meaning.{pieces_in}
-use Rattle.ir_forest.specs.ValueFaults.{refused, piece_token, first_token}
+use Rattle.ir_forest.specs.ValueFaults.{refused, refusal_kind, piece_token, first_token}
 
 -- What was begun and isn't ended: the action that began it, its token, and the trees that stood before it where it began.
 pub record Open : Type 0 where
@@ -72,6 +72,8 @@ after b act.BeginList k = with_begin b act.BeginList k
 after b act.BeginItem k = with_begin b act.BeginItem k
 after b act.EndItem k = with_end b.here b.around k
 after b act.EndList k = with_end b.here b.around k
+after b (act.BeginChoice n) k = with_begin b (act.BeginChoice n) k
+after b act.EndChoice k = with_end b.here b.around k
 
 -- what is built after events, so many tokens having been taken before
 abbrev pub built_from : Built → ℕ → List Event → Built
@@ -95,9 +97,9 @@ abbrev pub names_behind : List ℕ → Trees ActionSpan → List ℕ
 names_behind names no_tree = names
 names_behind names (a_tree (node s ts) rest) = names_behind (with_name names s.action s.first) rest
 
--- a number out of range in what ends: at the piece with this number, or at the end
-abbrev pub number_fault : Trees ActionSpan → ℕ → ℕ → Option Fault
-number_fault ts last i = Some (record { kind = kinds.Number; met = last; place = piece_token ts i last })
+-- what ends is refused: for the part with this number, or at the end
+abbrev pub refused_fault : Action → Trees ActionSpan → ℕ → ℕ → Fault
+refused_fault a ts last i = record { kind = refusal_kind a; met = last; place = piece_token ts i last }
 
 -- as many names as results, or a fault
 abbrev pub names_fault : List ℕ → ℕ → ℕ → ℕ → Option Fault
@@ -118,8 +120,8 @@ or_else None other = other
 -- the fault with which what is open innermost ends at a token
 abbrev pub fault_at_end : Values → (ℕ → List ℕ) → Trees ActionSpan → List Open → ℕ → Option Fault
 fault_at_end values text here [] last = None
-fault_at_end values text here (o ∷ os) last = option_map_or (λ i. number_fault here last i)
-    (refused values o.action (pieces_in values text here)) (names_fault_of values text o.action o.first o.before here last)
+fault_at_end values text here (o ∷ os) last = or_else (names_fault_of values text o.action o.first o.before here last)
+    (option_map (refused_fault o.action here last) (refused values o.action (pieces_in values text here)))
 
 -- whether an action ends something
 abbrev pub fault_after : Values → (ℕ → List ℕ) → Built → Action → ℕ → Option Fault

@@ -2,7 +2,7 @@
 use Rattle.std.specs.Prelude.{◌≡◌, ℕ, ◌+◌, ◌-◌, List, [], ◌∷◌, ◌++◌, Option, Some, None, Bool, true, false}
 use Rattle.ir_names.specs.Tree.{LabelledTree, Trees, node, no_tree, a_tree}
 use Rattle.ir_grammar.specs.declared.grammar.Action.{Action}
-use Rattle.ir_grammar.specs.declared.grammar.Action.TheVariants.{Operation, EndOperation, BeginRegion, EndRegion, Label, EndBlock, Begin, End, BeginOperands, EndOperands, BeginSuccessor, EndSuccessor, BeginList, BeginItem, EndItem, EndList}
+use Rattle.ir_grammar.specs.declared.grammar.Action.TheVariants.{Operation, EndOperation, BeginRegion, EndRegion, Label, EndBlock, Begin, End, BeginOperands, EndOperands, BeginSuccessor, EndSuccessor, BeginList, BeginItem, EndItem, EndList, BeginChoice, EndChoice}
 use Rattle.ir_grammar.specs.declared.grammar.Event.{Event}
 use Rattle.ir_grammar.specs.declared.grammar.Event.TheVariants.{Took, Did}
 
@@ -16,6 +16,7 @@ end_of BeginOperands = Some EndOperands
 end_of BeginSuccessor = Some EndSuccessor
 end_of BeginList = Some EndList
 end_of BeginItem = Some EndItem
+end_of (BeginChoice n) = Some EndChoice
 end_of _ = None
 
 -- whether an action ends something
@@ -28,6 +29,7 @@ is_end EndOperands = true
 is_end EndSuccessor = true
 is_end EndItem = true
 is_end EndList = true
+is_end EndChoice = true
 is_end _ = false
 
 -- an action, and the token at which it was done

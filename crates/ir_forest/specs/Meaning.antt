@@ -1,11 +1,11 @@
 -- What is read, as a tree of operations.
-use Rattle.std.specs.Prelude.{ℕ, ◌+◌, ◌*◌, ◌-◌, ◌==◌, List, [], ◌∷◌, ◌++◌, map, true, false, if◌then◌else◌}
+use Rattle.std.specs.Prelude.{ℕ, ◌+◌, ◌*◌, ◌-◌, ◌==◌, List, [], ◌∷◌, ◌++◌, map, drop, true, false, if◌then◌else◌}
 use Rattle.ir_names.specs.declared.kinds.Signedness.TheVariants.{Signless, Signed, Unsigned}
 use Rattle.ir_names.specs.Tree.{Trees, node, no_tree, a_tree, count}
 use Rattle.ir_print.specs.declared.format.ValueSort.TheVariants as sorts
 use Rattle.ir_print.specs.declared.format.LeafSort.{LeafSort}
 use Rattle.ir_print.specs.declared.format.LeafSort.TheVariants as leaves
-use Rattle.ir_print.specs.Pieces.{Leaf, name, number, width, Piece, value_of_kind, list, item, operands, successor, region, leaf, ValueTree, Pieces, Values, canonical_value, EntityHead, operation, a_region, block, Entity, entity, Entities, no_entity, an_entity}
+use Rattle.ir_print.specs.Pieces.{Leaf, name, number, unsigned, width, quoted, Piece, value_of_kind, list, item, chosen, operands, successor, region, leaf, ValueTree, Pieces, Values, canonical_value, EntityHead, operation, a_region, block, Entity, entity, Entities, no_entity, an_entity}
 use Rattle.ir_grammar.specs.declared.grammar.Action.{Action}
 use Rattle.ir_grammar.specs.declared.grammar.Action.TheVariants as act
 use Rattle.ir_forest.specs.Forest.{ActionSpan}
@@ -38,11 +38,24 @@ width_in (c ∷ cs) =
     if c == 115 then width Signed (digits (tail cs))
     else (if c == 117 then width Unsigned (digits (tail cs)) else width Signless (digits cs))
 
+abbrev mutual
+  -- the characters that stand in quotes, up to the closing `"` (34): a `\` (92) stands for the one behind it
+  pub unescaped : List ℕ → List ℕ
+  unescaped [] = []
+  unescaped (c ∷ cs) = if c == 92 then as_it_is cs else (if c == 34 then [] else c ∷ unescaped cs)
+
+  -- the first character, whatever it is, and the others so
+  pub as_it_is : List ℕ → List ℕ
+  as_it_is [] = []
+  as_it_is (c ∷ cs) = c ∷ unescaped cs
+
 -- what a token says that is a leaf of a sort
 abbrev pub leaf_in : LeafSort → List ℕ → Leaf
 leaf_in leaves.Name cs = name cs
 leaf_in leaves.Number cs = number_in cs
+leaf_in leaves.Digits cs = unsigned (digits cs)
 leaf_in leaves.Width cs = width_in cs
+leaf_in leaves.Text cs = quoted (unescaped (drop 1 cs))
 
 -- ---- types, attributes, and what operations say
 
@@ -51,6 +64,7 @@ abbrev pub with_piece : Values → Action → List ℕ → ℕ → Pieces → Pi
 with_piece values (act.Begin sort kind) text many ts rest = a_tree (node (value_of_kind sort kind) (canonical_value values sort kind ts)) rest
 with_piece values act.BeginList text many ts rest = a_tree (node list ts) rest
 with_piece values act.BeginItem text many ts rest = a_tree (node item ts) rest
+with_piece values (act.BeginChoice n) text many ts rest = a_tree (node (chosen n) ts) rest
 with_piece values act.BeginOperands text many ts rest = a_tree (node (operands many) no_tree) rest
 with_piece values act.BeginSuccessor text many ts rest = a_tree (node (successor many) no_tree) rest
 with_piece values act.BeginRegion text many ts rest = a_tree (node region no_tree) rest

@@ -7,12 +7,14 @@ use Rattle.std.specs.List.{range_with_len}
 use Rattle.std.proofs.lemmas.List.{map-append}
 use Rattle.std.proofs.lemmas.List.FromFn.{map-range_with_len_more}
 use Rattle.ir_print.specs.declared.format.Directive.{Directive}
-use Rattle.ir_print.specs.Formats.{Kind, Steps, step_of, steps_of}
+use Rattle.ir_print.specs.Formats.{Kind, Steps, Choices, choice_of, step_of, steps_of, choices_of}
+use Rattle.ir_grammar.specs.declared.grammar.Action.TheVariants as act
 use Rattle.ir_grammar.specs.declared.grammar.Symbol.{Symbol}
+use Rattle.ir_grammar.specs.declared.grammar.Symbol.TheVariants.{Part, Act}
 use Rattle.ir_grammar.specs.declared.grammar.Class.{Class}
 use Rattle.ir_formats.specs.declared.rules.Sort.{Sort}
 use Rattle.ir_formats.specs.declared.rules.RuleMaker.{RuleMaker}
-use Rattle.ir_formats.specs.Rules.{MadeOfSteps, PlainRule, operation_rules, region_rules, block_rules, argument_rules, is_name, both, texts, plain_rules, plain_classes, with_word, with_words, words_in, words_in_step, words_of_kinds, step_made, steps_made, kind_made, kinds_made}
+use Rattle.ir_formats.specs.Rules.{MadeOfSteps, PlainRule, operation_rules, region_rules, block_rules, argument_rules, is_name, both, texts, plain_rules, plain_classes, with_word, with_words, words_in, words_in_step, words_in_choices, words_of_kinds, up, step_made, steps_made, alternative_made, choices_made, kind_made, kinds_made}
 use Rattle.ir_formats.specs.Making.{frame_rules, AddsRules, AddsSymbolsAndRules, AddsMade}
 
 -- ---- lists
@@ -29,9 +31,19 @@ drop_none [] (suc n) e = refl
 drop_none (y ∷ ys) zero e = cc
 drop_none (y ∷ ys) (suc n) e = drop_none ys n e
 
+pub drop_past : {A : Type 0} (xs : List A) (n : ℕ) → length xs ≤ n → drop n xs ≡ []
+drop_past [] zero le = refl
+drop_past [] (suc n) le = refl
+drop_past (y ∷ ys) zero le = absurd (omega arith)
+drop_past (y ∷ ys) (suc n) le = drop_past ys n (omega arith)
+
 -- the item at a place within
 pub drop_item : {A : Type 0} (xs : List A) (i : ℕ) (x : A) → i < length xs → x ≡ get_or xs i x → drop i xs ≡ x ∷ drop (i + 1) xs
 drop_item xs i x lt e = drop-cons xs i x lt ∙ (ap (λ y. y ∷ drop (suc i) xs) (sym e) ∙ ap (λ n. x ∷ drop n xs) (sym (add-one i)))
+
+-- what stands at a place within, and behind it
+drop_at : {A : Type 0} (xs : List A) (i : ℕ) (x : A) → i < length xs → drop i xs ≡ get_or xs i x ∷ drop (i + 1) xs
+drop_at xs i x lt = drop-cons xs i x lt ∙ ap (λ n. get_or xs i x ∷ drop n xs) (sym (add-one i))
 
 -- one mark more
 pub marks_more : {A : Type 0} (f : ℕ → A) (k : ℕ) (xs ys : List A) (b : A) → xs ≡ map f (range_with_len 0 k) → b ≡ f k → ys ≡ xs ++ b ∷ [] → ys ≡ map f (range_with_len 0 (k + 1))
@@ -57,6 +69,18 @@ pub words_more : (fs : List Directive) (i : ℕ) (d : Directive) (a b whole : Li
 words_more fs i d a b whole lt at all more =
     rw more (sym (with_words-append a (words_in_step (step_of d)) (words_in (steps_of (drop (i + 1) fs))))
     ∙ (ap (λ gs. with_words a (words_in (steps_of gs))) (sym (drop_item fs i d lt at)) ∙ all))
+
+-- the words of one format more, of which one is taken
+pub choice_words_more : (fs : List (Bor (List Directive))) (i : ℕ) (d : Bor (List Directive)) (a b whole : List (List ℕ)) → i < length fs
+    → with_words a (words_in_choices (choices_of (drop i fs))) ≡ whole → b ≡ with_words a (words_in (steps_of (get_or fs i d).now))
+    → with_words b (words_in_choices (choices_of (drop (i + 1) fs))) ≡ whole
+choice_words_more fs i d a b whole lt all more =
+    rw more (sym (with_words-append a (words_in (steps_of (get_or fs i d).now)) (words_in_choices (choices_of (drop (i + 1) fs))))
+    ∙ (ap (λ gs. with_words a (words_in_choices (choices_of gs))) (sym (drop_at fs i d lt)) ∙ all))
+
+-- no format's words are left
+pub choice_words_done : (fs : List (Bor (List Directive))) (i : ℕ) (a whole : List (List ℕ)) → length fs ≤ i → with_words a (words_in_choices (choices_of (drop i fs))) ≡ whole → a ≡ whole
+choice_words_done fs i a whole past all = ap (λ gs. with_words a (words_in_choices (choices_of gs))) (sym (drop_past fs i past)) ∙ all
 
 -- the words of one kind more
 pub kind_words_more : (ks : List Kind) (i : ℕ) (k : Kind) (a b c whole : List (List ℕ)) → slice_get ks i ≡ Some k
@@ -105,6 +129,78 @@ format_more fs i d old mid new a b c whole lt at h more =
     subst (λ (r : MadeOfSteps). Leaves old new a c r whole) (same_steps mid new (steps_of (drop (i + 1) fs)) _ more.rules.words more.rules.next)
     (leaves_less old mid new a b c (step_made (texts mid.words.items) (step_of d) mid.next_list) _ whole here more)
 
+-- rules are added, and others behind them
+pub added_behind : (old mid new : RuleMaker) (xs ys : List PlainRule) (m n : ℕ) → AddsRules old mid xs m → AddsRules mid new ys n → AddsRules old new (xs ++ ys) n
+added_behind old mid new xs ys m n first more = record {
+  rules = more.rules ∙ (ap (λ rs. rs ++ ys) first.rules ∙ append_assoc (plain_rules old.rules.items) xs ys);
+  next = more.next;
+  words = more.words ∙ first.words;
+}
+
+same_choices : (mid new : RuleMaker) (c i : ℕ) (cs : Choices) (n : ℕ) → new.words ≡ mid.words → new.next_list ≡ n
+    → choices_made (texts mid.words.items) c i cs n ≡ choices_made (texts new.words.items) c i cs new.next_list
+same_choices mid new c i cs n words next = ap (λ ws. choices_made (texts ws.items) c i cs n) (sym words) ∙ ap (λ k. choices_made (texts new.words.items) c i cs k) (sym next)
+
+-- what the format with a number makes is added, of which one is taken
+alternative_added : (c i : ℕ) (mid there new : RuleMaker) (body : List Symbol) (m : MadeOfSteps)
+    → AddsSymbolsAndRules mid there (Act (act.BeginChoice i) ∷ []) body m
+    → AddsRules there new ((c, body ++ Act act.EndChoice ∷ []) ∷ []) there.next_list
+    → AddsMade mid new (alternative_made c i m)
+alternative_added c i mid there new body m steps rule =
+    let here = subst (λ (b : List Symbol). AddsRules there new ((c, b ++ Act act.EndChoice ∷ []) ∷ []) there.next_list) steps.symbols rule in
+    let last = subst (λ n. AddsRules there new ((c, Act (act.BeginChoice i) ∷ (m.symbols ++ Act act.EndChoice ∷ [])) ∷ []) n) steps.rules.next here in
+    added_behind mid there new m.rules _ _ _ steps.rules last
+
+-- no format is made yet, of which one is taken
+pub choices_begun : (fs : List (Bor (List Directive))) (c : ℕ) (old mid : RuleMaker) → AddsRules old mid [] (up old.next_list 1)
+    → Leaves mid mid [] [] (choices_made (texts mid.words.items) c 0 (choices_of fs) mid.next_list) (choices_made (texts old.words.items) c 0 (choices_of fs) (up old.next_list 1))
+choices_begun fs c old mid first =
+    let same : choices_made (texts mid.words.items) c 0 (choices_of fs) mid.next_list ≡ choices_made (texts old.words.items) c 0 (choices_of fs) (up old.next_list 1)
+    = ap (λ ws. choices_made (texts ws.items) c 0 (choices_of fs) mid.next_list) first.words
+    ∙ ap (λ k. choices_made (texts old.words.items) c 0 (choices_of fs) k) first.next in
+    record {
+      rules = ap (λ m. plain_rules mid.rules.items ++ m.rules) same;
+      symbols = ap (λ m. m.symbols) same;
+      next = ap (λ m. m.next) same;
+      words = refl;
+    }
+
+-- one format more is made, of which one is taken
+pub choices_more : (fs : List (Bor (List Directive))) (i : ℕ) (d : Bor (List Directive)) (c : ℕ) (old mid there new : RuleMaker) (begun body : List Symbol) (whole : MadeOfSteps) → i < length fs
+    → Leaves old mid [] [] (choices_made (texts mid.words.items) c i (choices_of (drop i fs)) mid.next_list) whole
+    → begun ≡ Act (act.BeginChoice i) ∷ []
+    → AddsSymbolsAndRules mid there begun body (steps_made (texts mid.words.items) (steps_of (get_or fs i d).now) mid.next_list)
+    → AddsRules there new ((c, body ++ Act act.EndChoice ∷ []) ∷ []) there.next_list
+    → Leaves old new [] [] (choices_made (texts new.words.items) c (i + 1) (choices_of (drop (i + 1) fs)) new.next_list) whole
+choices_more fs i d c old mid there new begun body whole lt h first steps rule =
+    let here = rw (drop_at fs i d lt) at h in
+    let made_of = steps_made (texts mid.words.items) (steps_of (get_or fs i d).now) mid.next_list in
+    let one : MadeOfSteps = alternative_made c i made_of in
+    let all = subst (λ (b : List Symbol). AddsSymbolsAndRules mid there b body made_of) first steps in
+    let made : AddsMade mid new one = alternative_added c i mid there new body made_of all rule in
+    subst (λ (r : MadeOfSteps). Leaves old new [] [] r whole) (same_choices mid new c (i + 1) (choices_of (drop (i + 1) fs)) _ made.words made.next)
+    (rw add-one (leaves_less old mid new [] [] [] one _ whole (rw add-one at here) (record { rules = made; symbols = refl })))
+
+-- no format is left
+pub choices_done : (fs : List (Bor (List Directive))) (i c : ℕ) (old mid new : RuleMaker) (a b : List Symbol) → length fs ≤ i → c ≡ old.next_list
+    → AddsRules old mid [] (up old.next_list 1) → b ≡ a ++ Part c ∷ []
+    → Leaves mid new [] [] (choices_made (texts new.words.items) c i (choices_of (drop i fs)) new.next_list) (choices_made (texts old.words.items) c 0 (choices_of fs) (up old.next_list 1))
+    → AddsSymbolsAndRules old new a b (step_made (texts old.words.items) (choice_of (choices_of fs)) old.next_list)
+choices_done fs i c old mid new a b past is first at h =
+    let here = rw (drop_past fs i past) at h in
+    let none : plain_rules mid.rules.items ≡ plain_rules old.rules.items = first.rules ∙ append-nil (plain_rules old.rules.items) in
+    subst (λ k. AddsSymbolsAndRules old new a b (made k)) is (record {
+      rules = record {
+        rules = sym (append-nil (plain_rules new.rules.items)) ∙ (here.rules ∙ ap (λ rs. rs ++ (made c).rules) none);
+        next = here.next;
+        words = here.words ∙ first.words;
+      };
+      symbols = at;
+    })
+  where
+    made : ℕ → MadeOfSteps
+    made k = let all = choices_made (texts old.words.items) k 0 (choices_of fs) (up old.next_list 1) in record { symbols = Part k ∷ []; rules = all.rules; next = all.next }
+
 -- one kind more is made
 pub kinds_more : (s : Sort) (ks : List Kind) (i : ℕ) (k : Kind) (old mid new : RuleMaker) (whole : MadeOfSteps) → slice_get ks i ≡ Some k
     → Leaves old mid [] [] (kinds_made (texts mid.words.items) s i (drop i ks) mid.next_list) whole
@@ -114,14 +210,6 @@ kinds_more s ks i k old mid new whole at h more =
     let here = rw (drop_some ks i k at) at h in
     subst (λ (r : MadeOfSteps). Leaves old new [] [] r whole) (same_kinds s (i + 1) mid new (drop (i + 1) ks) _ more.words more.next)
     (rw add-one (leaves_less old mid new [] [] [] (kind_made (texts mid.words.items) s i k mid.next_list) _ whole (rw add-one at here) (record { rules = more; symbols = refl })))
-
--- rules are added, and others behind them
-pub added_behind : (old mid new : RuleMaker) (xs ys : List PlainRule) (m n : ℕ) → AddsRules old mid xs m → AddsRules mid new ys n → AddsRules old new (xs ++ ys) n
-added_behind old mid new xs ys m n first more = record {
-  rules = more.rules ∙ (ap (λ rs. rs ++ ys) first.rules ∙ append_assoc (plain_rules old.rules.items) xs ys);
-  next = more.next;
-  words = more.words ∙ first.words;
-}
 
 -- the rules of each dialect's grammar are added, some behind others
 pub frame_added : (old a b c new : RuleMaker)

@@ -17,7 +17,7 @@ use Rattle.ir_grammar.specs.declared.grammar.Stop.{Stop}
 use Rattle.ir_grammar.specs.declared.grammar.Stop.TheVariants.{Text, Stuck, Deep}
 use Rattle.ir_grammar.specs.Reading.{through, Reads}
 use Rattle.ir_formats.specs.Rules.{plain_rule, plain_rules}
-use Rattle.ir_grammar.specs.Nesting.{names_value_or_block, OwnTokens, Position, at_root, behind_root_results, at_end, in_operation, in_operands, in_successor, in_region, in_header, in_argument, in_block, behind_results, in_value, in_list, in_item, Move, goes_to, goes_in, goes_out, nowhere, move, Nests, NestsBy, has_own_token, FollowTokens}
+use Rattle.ir_grammar.specs.Nesting.{names_value_or_block, OwnTokens, Position, at_root, behind_root_results, at_end, in_operation, in_operands, in_successor, in_region, in_header, in_argument, in_block, behind_results, in_value, in_list, in_item, in_choice, Move, goes_to, goes_in, goes_out, nowhere, move, Nests, NestsBy, has_own_token, FollowTokens}
 use Rattle.ir_formats.specs.Ordered.{Standing, alone, moved_out, moved_by, moved, passed, passed_all, number_of_position, is_same_position, PartPositions, led_from, placed, led, walked, walked_all, is_alone_at, is_alone, lead_so, follow_signs, is_rule_ordered, are_rules_ordered, is_ordered, LeadsToPosition, IsInOrder, OrdersTexts}
 use Rattle.ir_print.specs.declared.format.ValueSort.TheVariants as sorts
 use Rattle.ir_formats.proofs.Booleans.{both_hold}
@@ -32,7 +32,7 @@ inner e = cc
 
 -- the position with a number
 position_at : ℕ → Position
-position_at n = slice_index_or (at_root ∷ behind_root_results ∷ at_end ∷ in_operation ∷ in_operands ∷ in_region ∷ in_header ∷ in_argument ∷ in_block ∷ behind_results ∷ (in_value sorts.«Type») ∷ (in_value sorts.Attribute) ∷ in_list ∷ in_item ∷ in_successor ∷ []) n at_end
+position_at n = slice_index_or (at_root ∷ behind_root_results ∷ at_end ∷ in_operation ∷ in_operands ∷ in_region ∷ in_header ∷ in_argument ∷ in_block ∷ behind_results ∷ (in_value sorts.«Type») ∷ (in_value sorts.Attribute) ∷ in_list ∷ in_item ∷ in_successor ∷ in_choice ∷ []) n at_end
 
 position_back : (p : Position) → position_at (number_of_position p) ≡ p
 unfolding position_at
@@ -51,6 +51,7 @@ position_back (in_value sorts.Attribute) = refl
 position_back in_list = refl
 position_back in_item = refl
 position_back in_successor = refl
+position_back in_choice = refl
 
 pub same_position : (p q : Position) → is_same_position p q ≡ true → p ≡ q
 same_position p q e = sym (position_back p) ∙ (ap position_at (eqb-true (number_of_position p) (number_of_position q) e) ∙ position_back q)

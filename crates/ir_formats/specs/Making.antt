@@ -1,7 +1,7 @@
 -- What the making of rules does to those that are there.
 use Rattle.std.specs.Prelude.{ℕ, Bool, true, false, List, ◌≡◌, ◌++◌, map}
 use Rattle.std.specs.Borrow.{Bor}
-use Rattle.ir_print.specs.Formats.{Formats, Kind, Step, word, operands, operand, successor, a_value, a_region, symbol_name, a_leaf, list_of, steps_of}
+use Rattle.ir_print.specs.Formats.{Formats, Kind, Step, word, operands, operand, successor, a_value, a_region, symbol_name, a_leaf, list_of, choice_of, steps_of}
 use Rattle.ir_grammar.specs.declared.grammar.Symbol.{Symbol}
 use Rattle.ir_formats.specs.declared.rules.KindText.{KindText}
 use Rattle.ir_formats.specs.declared.rules.KindTexts.{KindTexts}
@@ -35,6 +35,7 @@ has_rules a_region = false
 has_rules symbol_name = false
 has_rules (a_leaf sort) = false
 has_rules (list_of member printed separator) = true
+has_rules (choice_of cs) = true
 
 -- the rules that the grammar of each dialect with these words has
 abbrev pub frame_rules : List (List ℕ) → List PlainRule

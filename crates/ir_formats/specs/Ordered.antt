@@ -9,7 +9,7 @@ use Rattle.ir_grammar.specs.declared.grammar.Grammar.{Grammar}
 use Rattle.ir_grammar.specs.Grammar.{IsTextOf}
 use Rattle.ir_formats.specs.Rules.{PlainRule}
 use Rattle.ir_print.specs.declared.format.ValueSort.TheVariants as sorts
-use Rattle.ir_grammar.specs.Nesting.{Position, at_root, behind_root_results, at_end, in_operation, in_operands, in_successor, in_region, in_header, in_argument, in_block, behind_results, in_value, in_list, in_item, Move, goes_to, goes_in, goes_out, nowhere, move, Nests, has_own_token, FollowTokens}
+use Rattle.ir_grammar.specs.Nesting.{Position, at_root, behind_root_results, at_end, in_operation, in_operands, in_successor, in_region, in_header, in_argument, in_block, behind_results, in_value, in_list, in_item, in_choice, Move, goes_to, goes_in, goes_out, nowhere, move, Nests, has_own_token, FollowTokens}
 
 -- ---- where what is read leads to
 
@@ -72,6 +72,7 @@ number_of_position (in_value sorts.Attribute) = 11
 number_of_position in_list = 12
 number_of_position in_item = 13
 number_of_position in_successor = 14
+number_of_position in_choice = 15
 
 -- two positions are the same
 abbrev pub is_same_position : Position → Position → Bool
@@ -156,7 +157,7 @@ body_leads = (at_root, at_end) ∷ (behind_root_results, at_end) ∷ stays in_bl
 
 -- where pieces of a text may stand that a format gives
 abbrev pub piece_leads : List (Position × Position)
-piece_leads = stays in_operation ∷ stays (in_value sorts.«Type») ∷ stays (in_value sorts.Attribute) ∷ stays in_item ∷ []
+piece_leads = stays in_operation ∷ stays (in_value sorts.«Type») ∷ stays (in_value sorts.Attribute) ∷ stays in_item ∷ stays in_choice ∷ []
 
 -- Parts 0 to 13, in their order: root, operation, more_results, body, region, blocks, block, arguments, more_arguments, argument,
 -- operations, more_operations, type_part and attribute.
@@ -190,8 +191,8 @@ edge_leads = stays in_successor ∷ []
 abbrev pub list_leads : List (Position × Position)
 list_leads = stays in_list ∷ []
 
--- With this of the parts of lists, from 14 on. A list has two parts: its members, and what follows a member. So have the operands
--- of an edge.
+-- With this of the parts of lists and choices, from 14 on. A list has two parts: its members, and what follows a member. So have the
+-- operands of an edge. A choice has one, which stands where pieces do.
 abbrev pub leads_with : List (List (Position × Position)) → PartPositions
 leads_with lists n = slice_index_or (frame_leads ++ lists) n []
 

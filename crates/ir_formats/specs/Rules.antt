@@ -4,7 +4,7 @@ use Rattle.std.specs.Borrow.{Bor}
 use Rattle.std.specs.List.{range_with_len}
 use Rattle.std.specs.Str.{bytes_eq}
 use Rattle.ir_names.specs.Text.{is_identifier}
-use Rattle.ir_print.specs.Formats.{Formats, Kind, Step, Steps, word, operands, operand, successor, a_value, a_region, symbol_name, a_leaf, list_of, no_steps, step}
+use Rattle.ir_print.specs.Formats.{Formats, Kind, Step, Steps, word, operands, operand, successor, a_value, a_region, symbol_name, a_leaf, list_of, choice_of, no_steps, step, Choices, no_choice, a_choice}
 use Rattle.ir_print.specs.declared.format.ValueSort.{ValueSort}
 use Rattle.ir_print.specs.declared.format.ValueSort.TheVariants as sorts
 use Rattle.ir_print.specs.declared.format.LeafSort.{LeafSort}
@@ -56,11 +56,17 @@ abbrev mutual
   words_in_step symbol_name = codes "@" ∷ []
   words_in_step (a_leaf sort) = []
   words_in_step (list_of member printed separator) = separator ∷ words_in member
+  words_in_step (choice_of cs) = words_in_choices cs
 
   -- the words in a format
   pub words_in : Steps → List (List ℕ)
   words_in no_steps = []
   words_in (step s ss) = words_in_step s ++ words_in ss
+
+  -- the words in formats of which one is taken
+  pub words_in_choices : Choices → List (List ℕ)
+  words_in_choices no_choice = []
+  words_in_choices (a_choice ss cs) = words_in ss ++ words_in_choices cs
 
 -- the ids of kinds, and the words in their formats
 abbrev pub words_of_kinds : List Kind → List (List ℕ)
@@ -77,7 +83,8 @@ words_of f = with_words (with_words (with_words (with_words [] frame_words) (wor
 abbrev pub up : ℕ → ℕ → ℕ
 up n k = min (n + k) 4294967295
 
--- the sign of names, that of widths and that of numbers; each word has a sign of its own behind these
+-- the sign of names, that of widths, that of numbers, that of numbers without a sign and that of texts in quotes; each word has one of its
+-- own behind these
 abbrev pub name : Symbol
 name = Sign 0
 
@@ -87,33 +94,42 @@ width = Sign 1
 abbrev pub number : Symbol
 number = Sign 2
 
+abbrev pub digits : Symbol
+digits = Sign 3
+
+abbrev pub quotation : Symbol
+quotation = Sign 4
+
 abbrev pub sign : List (List ℕ) → List ℕ → Symbol
-sign words w = Sign (up (number_of words w) 3)
+sign words w = Sign (up (number_of words w) 5)
 
 -- whether this is a word that may be a name
 abbrev pub is_name : Option (List ℕ) → Bool
 is_name None = false
 is_name (Some w) = is_identifier w
 
--- Kinds 0 to 4 of token are names, widths, digits, negative numbers and all others, and word i has the kind i + 5. A name may be
+-- Kinds 0 to 5 of token are names, widths, digits, negative numbers, texts in quotes and all others, and word i has the kind i + 6. A name may be
 -- of kind 0 or 1, or a word that is an identifier.
 abbrev pub may_be_name : List (List ℕ) → ℕ → Bool
-may_be_name words k = if nat_lt k 5 then k == 0 || k == 1 else is_name (slice_get words (k - 5))
+may_be_name words k = if nat_lt k 6 then k == 0 || k == 1 else is_name (slice_get words (k - 6))
 
--- Whether a sign takes tokens of a kind: that of names, that of widths, that of numbers, and behind these sign i + 3 of word i.
+-- Whether a sign takes tokens of a kind: that of names, that of widths, that of numbers, that of those without a sign, that of texts in quotes,
+-- and behind these sign i + 5 of word i.
 abbrev pub takes : List (List ℕ) → ℕ → ℕ → Bool
 takes words zero k = may_be_name words k
 takes words (suc zero) k = k == 1
 takes words (suc (suc zero)) k = k == 2 || k == 3
-takes words (suc (suc (suc i))) k = k == i + 5
+takes words (suc (suc (suc zero))) k = k == 2
+takes words (suc (suc (suc (suc zero)))) k = k == 4
+takes words (suc (suc (suc (suc (suc i))))) k = k == i + 6
 
 -- the kinds that a sign takes, as a mark for each kind
 abbrev pub class_of : List (List ℕ) → ℕ → List Bool
-class_of words s = map (takes words s) (range_with_len 0 (length words + 5))
+class_of words s = map (takes words s) (range_with_len 0 (length words + 6))
 
 -- the signs of a grammar with these words
 abbrev pub classes_of : List (List ℕ) → List (List Bool)
-classes_of words = map (class_of words) (range_with_len 0 (length words + 3))
+classes_of words = map (class_of words) (range_with_len 0 (length words + 5))
 
 -- ---- rules
 
@@ -121,7 +137,7 @@ classes_of words = map (class_of words) (range_with_len 0 (length words + 3))
 abbrev pub PlainRule : Type 0
 PlainRule = ℕ × List Symbol
 
--- the parts of each grammar; lists of formats have further ones, from 14 on
+-- the parts of each grammar; lists and choices of formats have further ones, from 14 on
 abbrev pub root : ℕ
 root = 0
 
@@ -211,7 +227,7 @@ several n separator member =
     ∷ (up n 1, separator ∷ (member ++ Part (up n 1) ∷ []))
     ∷ []
 
--- What steps of a format make: symbols, rules of their own, and the number of the next list's part.
+-- What steps of a format make: symbols, rules of their own, and the number of the part of the next list or choice.
 pub record MadeOfSteps : Type 0 where
   pub symbols : List Symbol
   pub rules : List PlainRule
@@ -233,6 +249,14 @@ list_made n separator member = record {
   next = member.next;
 }
 
+-- The rule of one of several formats, with a number, behind those of its lists: part c is the choice, and this is what its steps make.
+abbrev pub alternative_made : (c number : ℕ) → MadeOfSteps → MadeOfSteps
+alternative_made c number m = record {
+  symbols = [];
+  rules = m.rules ++ (c, Act (act.BeginChoice number) ∷ (m.symbols ++ Act act.EndChoice ∷ [])) ∷ [];
+  next = m.next;
+}
+
 -- the part of a value
 abbrev pub value_part : ValueSort → ℕ
 value_part sorts.«Type» = type_part
@@ -242,7 +266,9 @@ value_part sorts.Attribute = attribute
 abbrev pub leaf_sign : LeafSort → Symbol
 leaf_sign leaves.Name = name
 leaf_sign leaves.Number = number
+leaf_sign leaves.Digits = digits
 leaf_sign leaves.Width = width
+leaf_sign leaves.Text = quotation
 
 abbrev mutual
   -- what a step makes, n being the part of the next list
@@ -264,11 +290,21 @@ abbrev mutual
   step_made ws symbol_name n = just (sign ws (codes "@") ∷ name ∷ Act (act.Leaf leaves.Name) ∷ []) n
   step_made ws (a_leaf sort) n = just (leaf_sign sort ∷ Act (act.Leaf sort) ∷ []) n
   step_made ws (list_of member printed separator) n = list_made n (sign ws separator) (steps_made ws member (up n 2))
+  step_made ws (choice_of cs) n = let made = choices_made ws n 0 cs (up n 1) in record {
+    symbols = Part n ∷ [];
+    rules = made.rules;
+    next = made.next;
+  }
 
   -- what the steps of a format make
   pub steps_made : List (List ℕ) → Steps → ℕ → MadeOfSteps
   steps_made ws no_steps n = just [] n
   steps_made ws (step s ss) n = let a = step_made ws s n in both a (steps_made ws ss a.next)
+
+  -- what formats make of which one is taken, with numbers from this one on, part c being the choice
+  pub choices_made : List (List ℕ) → (c number : ℕ) → Choices → ℕ → MadeOfSteps
+  choices_made ws c i no_choice n = just [] n
+  choices_made ws c i (a_choice ss cs) n = let a = alternative_made c i (steps_made ws ss n) in both a (choices_made ws c (suc i) cs a.next)
 
 -- the part of which the kinds of a sort are
 abbrev pub part_of : Sort → ℕ

@@ -26,12 +26,14 @@ pub enum Shape {
     Width,
     Digits,
     Negative,
+    /// A text in quotes.
+    Text,
     /// A token that no text of the grammar has.
     Other,
 }
 
 /// The number of shapes, and so the kind of the first word.
-pub const SHAPES: usize = 5;
+pub const SHAPES: usize = 6;
 
 impl Shape {
     /// The kind of tokens of this shape.
@@ -43,7 +45,8 @@ impl Shape {
             Shape::Width => 1,
             Shape::Digits => 2,
             Shape::Negative => 3,
-            Shape::Other => 4,
+            Shape::Text => 4,
+            Shape::Other => 5,
         }
     }
 }
@@ -55,10 +58,14 @@ const WIDTH_SIGN: u32 = 1;
 
 const NUMBER_SIGN: u32 = 2;
 
-/// The sign of the first word; each word has one.
-const FIRST_WORD_SIGN: u32 = 3;
+const DIGITS_SIGN: u32 = 3;
 
-/// The parts of each dialect's grammar. Lists have further ones.
+const TEXT_SIGN: u32 = 4;
+
+/// The sign of the first word; each word has one.
+const FIRST_WORD_SIGN: u32 = 5;
+
+/// The parts of each dialect's grammar. Lists and choices have further ones.
 const ROOT: u32 = 0;
 
 const OPERATION: u32 = 1;
@@ -87,7 +94,7 @@ const TYPE: u32 = 12;
 
 const ATTRIBUTE: u32 = 13;
 
-/// The first part of a list.
+/// The first part of a list or a choice.
 const FIRST_LIST: u32 = 14;
 
 /// The words that no format gives.
@@ -215,13 +222,20 @@ fn add_directive(words: &mut Vec<&'static str>, directive: Directive) -> Result<
             add_word(words, separator.trim())?;
             add_format(words, member)?;
         }
+        Directive::Choice(alternatives) => {
+            for format in alternatives {
+                add_format(words, *format)?;
+            }
+        }
         Directive::Operand => {}
         Directive::Attribute => {}
         Directive::Type => {}
         Directive::Region => {}
         Directive::Name => {}
         Directive::Number => {}
+        Directive::Digits => {}
         Directive::Width => {}
+        Directive::Text => {}
     }
     Ok(())
 }
@@ -259,13 +273,22 @@ fn begun_item(alloc: Global) -> Result<Vec<Symbol>, AllocError>
     Ok(item)
 }
 
+/// The symbols of one of several formats, of which the action that begins it is there.
+fn begun_choice(alloc: Global, number: usize) -> Result<Vec<Symbol>, AllocError>
+    ensures { IfOk result (λ v. v.items ≡ Act (act.BeginChoice number) ∷ []) }
+{
+    let mut body = Vec::new(alloc);
+    body.push(Symbol::Act(Action::BeginChoice(number)))?;
+    Ok(body)
+}
+
 /// Rules in the making.
 #[derive(Drop)]
 struct RuleMaker {
     alloc: Global,
     words: Vec<&'static str>,
     rules: Vec<Rule>,
-    /// The part of the next list.
+    /// The part of the next list or choice.
     next_list: u32,
 }
 
@@ -309,6 +332,25 @@ impl RuleMaker {
         let list = self.next_list;
         self.next_list = list.saturating_add(2);
         list
+    }
+
+    /// The part of the next choice.
+    fn choice_part(&mut self) -> u32
+        ensures part { result ≡ self.old.next_list }
+        ensures next { AddsRules self.old self.new [] (up self.old.next_list 1) }
+    {
+        let choice = self.next_list;
+        self.next_list = choice.saturating_add(1);
+        choice
+    }
+
+    /// Adds the rule of one of several formats. Its symbols lack the action that ends it.
+    fn alternative(&mut self, choice: u32, mut body: Vec<Symbol>) -> Result<(), AllocError>
+        ensures { OnOk result (AddsRules self.old self.new
+            ((choice, body.items ++ Act act.EndChoice ∷ []) ∷ []) self.old.next_list) }
+    {
+        body.push(Symbol::Act(Action::EndChoice))?;
+        self.rule(choice, &body)
     }
 
     /// Adds the rules of a list of members, none or more, with a separator between two.
@@ -356,6 +398,16 @@ impl RuleMaker {
                 let mut item = begun_item(self.alloc)?;
                 self.format(&mut item, member)?;
                 self.list(symbols, list, separator, item)
+            }
+            Directive::Choice(alternatives) => {
+                let choice = self.choice_part();
+                symbols.push(Symbol::Part(choice))?;
+                for (number, format) in alternatives.iter().enumerate() {
+                    let mut body = begun_choice(self.alloc, number)?;
+                    self.format(&mut body, *format)?;
+                    self.alternative(choice, body)?;
+                }
+                Ok(())
             }
             Directive::Operands => self.operands(symbols),
             Directive::Successor => self.successor(symbols),
@@ -463,13 +515,28 @@ impl RuleMaker {
                     Symbol::Act(Action::Leaf(LeafSort::Number)),
                 ])
             }
+            Directive::Digits => {
+                symbols.extend_from_slice(&[
+                    Symbol::Sign(DIGITS_SIGN),
+                    Symbol::Act(Action::Leaf(LeafSort::Digits)),
+                ])
+            }
             Directive::Width => {
                 symbols.extend_from_slice(&[
                     Symbol::Sign(WIDTH_SIGN),
                     Symbol::Act(Action::Leaf(LeafSort::Width)),
                 ])
             }
-            Directive::Operands | Directive::Successor | Directive::List(_, _) => Ok(()),
+            Directive::Text => {
+                symbols.extend_from_slice(&[
+                    Symbol::Sign(TEXT_SIGN),
+                    Symbol::Act(Action::Leaf(LeafSort::Text)),
+                ])
+            }
+            Directive::Operands
+            | Directive::Successor
+            | Directive::List(_, _)
+            | Directive::Choice(_) => Ok(()),
         }
     }
 
@@ -632,7 +699,9 @@ fn is_taken(words: &[&'static str], sign: usize, kind: usize) -> bool
         0 => may_be_name(words, kind),
         1 => kind == 1,
         2 => kind == 2 || kind == 3,
-        _ => kind >= SHAPES && kind - SHAPES == sign - 3,
+        3 => kind == 2,
+        4 => kind == 4,
+        _ => kind >= SHAPES && kind - SHAPES == sign - FIRST_WORD_SIGN as usize,
     }
 }
 
@@ -652,7 +721,7 @@ fn signs(alloc: Global, words: &[&'static str]) -> Result<Vec<Class>, AllocError
     ensures { IfOk result (λ cs. plain_classes cs.items ≡ classes_of (texts words.now)) }
 {
     let mut signs = Vec::new(alloc);
-    for sign in 0..words.len() + 3 {
+    for sign in 0..words.len() + FIRST_WORD_SIGN as usize {
         signs.push(class(alloc, words, sign)?)?;
     }
     Ok(signs)
@@ -703,7 +772,7 @@ fn with_table(
     ensures rules { IfOk result (λ g. g.rules ≡ rules) }
     ensures signs { IfOk result (λ g. plain_classes g.signs.items ≡ classes_of (texts words.now)) }
     ensures parts { IfOk result (λ g. map plain_facts g.parts.items
-        ≡ map (dense (length words.now + 6)) (map plain_part table.now)) }
+        ≡ map (dense (length words.now + 7)) (map plain_part table.now)) }
 {
     Ok(Grammar {
         signs: signs(alloc, words)?,

@@ -7,7 +7,7 @@ ghost use Rattle.std.specs.Str.{chars};
 ghost use Rattle.ir_characters.specs.Texts.{codes_of};
 ghost use Rattle.ir_formats.specs.Rules.{texts, number_of, with_word};
 ghost use Rattle.ir_formats.specs.Spelling.{known_texts, numbers_with, signs_with, NumbersWords, AreAllSigns, AreSigns, IsSignAt};
-ghost use Rattle.ir_formats.specs.Words.{spellings, text_of, is_width, are_digits, shape_kind, is_spelled, has_kind, word_kind, kind_of, known_with, name_number, AreClassified};
+ghost use Rattle.ir_formats.specs.Words.{spellings, text_of, is_width, are_digits, is_special, is_quotation, shape_kind, is_spelled, has_kind, word_kind, kind_of, known_with, name_number, AreClassified};
 
 use crate::rules::{SHAPES, Shape};
 use indexmap::IndexSet;
@@ -84,6 +84,13 @@ fn is_blank(c: char) -> bool
     c == ' ' || c.is_whitespace()
 }
 
+/// Whether a character may stand behind a `\`.
+fn is_special(c: char) -> bool
+    ensures { result ≡ is_special c }
+{
+    c == '"' || c == '\\'
+}
+
 /// Whether digits, one or more, stand from this place to the end. Few names get here, so that what most of them need is
 /// small enough to stand where it is asked for.
 #[inline(never)]
@@ -111,6 +118,28 @@ fn is_width(name: Text) -> bool
     }
 }
 
+/// Whether each `\` of a text in quotes has a `"` or a `\` behind it.
+#[inline(never)]
+fn is_quotation(text: Text) -> bool
+    ensures { result ≡ is_quotation (codes_of text.entry) }
+{
+    let mut is_escape = false;
+    for place in 1..text.len() {
+        let c = text.at(place);
+        if is_escape {
+            if !is_special(c) {
+                return false;
+            }
+            is_escape = false;
+        } else if c == '\\' {
+            is_escape = true;
+        } else if c == '"' {
+            return true;
+        }
+    }
+    text.len() > 0 && !is_escape
+}
+
 /// The kind of a token that is no word of the grammar.
 #[inline(always)]
 fn shape_of(kind: TokenKind, text: Text) -> u32
@@ -126,6 +155,13 @@ fn shape_of(kind: TokenKind, text: Text) -> u32
         }
         TokenKind::Digits => Shape::Digits,
         TokenKind::Negative => Shape::Negative,
+        TokenKind::Text => {
+            if is_quotation(text) {
+                Shape::Text
+            } else {
+                Shape::Other
+            }
+        }
         _ => Shape::Other,
     };
     shape.kind()

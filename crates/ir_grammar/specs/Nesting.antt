@@ -2,7 +2,7 @@
 use Rattle.std.specs.Prelude.{◌≡◌, List, [], ◌∷◌, Bool, true, false}
 use Rattle.std.specs.Bool.{MatchBool}
 use Rattle.ir_grammar.specs.declared.grammar.Action.{Action}
-use Rattle.ir_grammar.specs.declared.grammar.Action.TheVariants.{Result, Operation, EndOperation, BeginRegion, EndRegion, Label, Argument, Header, EndBlock, Begin, End, Leaf, BeginOperands, Operand, EndOperands, BeginSuccessor, EndSuccessor, BeginList, BeginItem, EndItem, EndList}
+use Rattle.ir_grammar.specs.declared.grammar.Action.TheVariants.{Result, Operation, EndOperation, BeginRegion, EndRegion, Label, Argument, Header, EndBlock, Begin, End, Leaf, BeginOperands, Operand, EndOperands, BeginSuccessor, EndSuccessor, BeginList, BeginItem, EndItem, EndList, BeginChoice, EndChoice}
 use Rattle.ir_print.specs.declared.format.ValueSort.{ValueSort}
 use Rattle.ir_print.specs.declared.format.ValueSort.TheVariants as sorts
 use Rattle.ir_grammar.specs.declared.grammar.Event.{Event}
@@ -18,9 +18,9 @@ pub data Position : Type 0 where
   in_header in_argument : Position
   -- among the operations of a block, behind names of results
   in_block behind_results : Position
-  -- in a value, in a list, in a member of a list
+  -- in a value, in a list, in a member of a list, in one of several formats
   in_value : ValueSort → Position
-  in_list in_item : Position
+  in_list in_item in_choice : Position
 
 -- What an action may do at a position: it leaves reading at another one, it begins something, or it ends what is begun.
 pub data Move : Type 0 where
@@ -30,11 +30,12 @@ pub data Move : Type 0 where
   goes_out : Move
   nowhere : Move
 
--- what an action does among the pieces of a type, an attribute, a member or an operation
+-- what an action does among the pieces of a type, an attribute, a member, one of several formats or an operation
 abbrev pub piece_move : Position → Action → Move
 piece_move at (Leaf sort) = goes_to at
 piece_move at (Begin sort kind) = goes_in (in_value sort) at
 piece_move at BeginList = goes_in in_list at
+piece_move at (BeginChoice n) = goes_in in_choice at
 piece_move at _ = nowhere
 
 abbrev pub operation_move : Action → Move
@@ -57,6 +58,10 @@ value_move sort a = piece_move (in_value sort) a
 abbrev pub item_move : Action → Move
 item_move EndItem = goes_out
 item_move a = piece_move in_item a
+
+abbrev pub choice_move : Action → Move
+choice_move EndChoice = goes_out
+choice_move a = piece_move in_choice a
 
 abbrev pub list_move : Action → Move
 list_move EndList = goes_out
@@ -119,6 +124,7 @@ move behind_results a = results_move behind_results in_block a
 move (in_value sort) a = value_move sort a
 move in_list a = list_move a
 move in_item a = item_move a
+move in_choice a = choice_move a
 
 -- A move has its place among the positions around, and what comes behind it, from the position that it leads to on, is so.
 abbrev pub NestsBy : Move → List Position → (Position → List Position → Type 0) → Type 0

@@ -1,7 +1,7 @@
 -- What is read, and where it is refused.
 use Rattle.std.specs.Prelude.{◌≡◌, Bool, true, false, ℕ, zero, suc, ◌+◌, ◌<◌, ◌≤◌, List, [], ◌∷◌, ◌++◌, ◌-◌, ◌⊎◌, Option, Some, None, cond, take, length}
 use Rattle.ir_grammar.specs.declared.grammar.Action.{Action}
-use Rattle.ir_grammar.specs.declared.grammar.Action.TheVariants.{BeginRegion, EndRegion, Begin, End, BeginItem}
+use Rattle.ir_grammar.specs.declared.grammar.Action.TheVariants.{BeginRegion, EndRegion, Begin, End, BeginItem, BeginChoice}
 use Rattle.ir_grammar.specs.declared.grammar.Event.{Event}
 use Rattle.ir_grammar.specs.declared.grammar.Event.TheVariants.{Took, Did}
 use Rattle.ir_grammar.specs.declared.grammar.Grammar.{Grammar}
@@ -32,9 +32,10 @@ tooks (Did a ∷ es) = tooks es
 abbrev pub IsPrefix : List Event → List Event → Type 0
 IsPrefix es fs = (more : List Event) × (fs ≡ es ++ more)
 
--- The action begins a member of a list, whose first token is the next one.
+-- The action begins a member of a list, or one of several formats, whose first token is the next one.
 abbrev pub begins_member : Action → Bool
 begins_member BeginItem = true
+begins_member (BeginChoice n) = true
 begins_member _ = false
 
 -- nothing is done but that members begin

@@ -58,6 +58,10 @@ pub enum Action {
     EndItem,
     /// The list has been read.
     EndList,
+    /// What the format with this number, of several, says begins with the next token.
+    BeginChoice(usize),
+    /// It has been read.
+    EndChoice,
 }
 
 /// What an action does to the number of open parts that count for the depth.
@@ -171,6 +175,7 @@ impl Action {
     {
         match self {
             Action::BeginItem => true,
+            Action::BeginChoice(_) => true,
             _ => false,
         }
     }

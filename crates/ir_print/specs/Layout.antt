@@ -1,26 +1,38 @@
 -- How an operation is printed, whose values and blocks have these names: its layout.
-use Rattle.std.specs.Prelude.{ℕ, zero, suc, ◌+◌, List, [], ◌∷◌, ◌++◌, Bool, true, false, map, take, drop, replicate, Option, Some, None, slice_get, codes}
+use Rattle.std.specs.Prelude.{ℕ, zero, suc, ◌+◌, List, [], ◌∷◌, ◌++◌, Bool, true, false, map, take, drop, replicate, Option, Some, None, slice_get, codes, encode_utf8_all, ◌==◌, ◌||◌, if◌then◌else◌}
 use Rattle.std.specs.Fmt.{decimal}
 use Rattle.ir_names.specs.declared.kinds.Signedness.{Signedness}
 use Rattle.ir_names.specs.declared.kinds.Signedness.TheVariants.{Signless, Signed, Unsigned}
 use Rattle.ir_names.specs.Tree.{node, no_tree, a_tree}
 use Rattle.ir_print.specs.Formats as step
-use Rattle.ir_print.specs.Formats.{Formats, Kind, Step, Steps, no_steps, kinds_of}
+use Rattle.ir_print.specs.Formats.{Formats, Kind, Step, Steps, no_steps, alternative, kinds_of}
 use Rattle.ir_print.specs.declared.format.ValueSort.TheVariants as sorts
-use Rattle.ir_print.specs.Pieces.{Leaf, name, number, width, value_of_kind, list, item, operands, successor, region, leaf, ValueTree, Pieces, EntityHead, operation, a_region, block, Entity, entity, Entities, no_entity, an_entity}
+use Rattle.ir_print.specs.Pieces.{Leaf, name, number, unsigned, width, quoted, value_of_kind, list, item, chosen, operands, successor, region, leaf, ValueTree, Pieces, EntityHead, operation, a_region, block, Entity, entity, Entities, no_entity, an_entity}
 
 -- A part of a text: white space, a token, or a word as it is printed, with white space around it, and as it is read.
 pub data Chunk : Type 0 where
   white : List ℕ → Chunk
   token : List ℕ → Chunk
   word : (printed text : List ℕ) → Chunk
+  -- a text in quotes, by the characters that it says
+  quotation : List ℕ → Chunk
 
--- the characters of some chunks
+-- characters as they stand between quotes: `"` (34) and `\` (92) have a `\` before them
+abbrev pub escaped : List ℕ → List ℕ
+escaped [] = []
+escaped (c ∷ cs) = if c == 34 || c == 92 then 92 ∷ c ∷ escaped cs else c ∷ escaped cs
+
+-- characters in quotes
+abbrev pub in_quotes : List ℕ → List ℕ
+in_quotes cs = 34 ∷ (escaped cs ++ 34 ∷ [])
+
+-- The bytes of some chunks. A text in quotes is written as UTF-8 has its characters, and all others are ASCII.
 abbrev pub spell : List Chunk → List ℕ
 spell [] = []
 spell (white cs ∷ rest) = cs ++ spell rest
 spell (token cs ∷ rest) = cs ++ spell rest
 spell (word printed text ∷ rest) = printed ++ spell rest
+spell (quotation cs ∷ rest) = encode_utf8_all (in_quotes cs) ++ spell rest
 
 -- a space
 abbrev pub space : List ℕ
@@ -99,12 +111,19 @@ number_text false magnitude = decimal magnitude
 abbrev pub leaf_text : Leaf → List ℕ
 leaf_text (name cs) = cs
 leaf_text (number negative magnitude) = number_text negative magnitude
+leaf_text (unsigned magnitude) = decimal magnitude
 leaf_text (width sign bits) = width_text sign bits
+leaf_text (quoted cs) = in_quotes cs
+
+-- the token of a leaf
+abbrev pub leaf_chunk : Leaf → Chunk
+leaf_chunk (quoted cs) = quotation cs
+leaf_chunk x = token (leaf_text x)
 
 -- the token of a leaf, with `@` before the name of a symbol
-abbrev pub leaf_on : Step → List ℕ → List Chunk → List Chunk
-leaf_on step.symbol_name cs rest = token (codes "@") ∷ token cs ∷ rest
-leaf_on _ cs rest = token cs ∷ rest
+abbrev pub leaf_on : Step → Chunk → List Chunk → List Chunk
+leaf_on step.symbol_name c rest = token (codes "@") ∷ c ∷ rest
+leaf_on _ c rest = c ∷ rest
 
 -- the word between two members of a list, as it is printed and as it is read
 abbrev pub separator_of : Step → Chunk
@@ -115,6 +134,16 @@ separator_of _ = white []
 abbrev pub member_of : Step → Steps
 member_of (step.list_of member printed text) = member
 member_of _ = no_steps
+
+-- the format with a number at a step, if it has one
+abbrev pub alternative_of : Step → ℕ → Option Steps
+alternative_of (step.choice_of cs) n = alternative cs n
+alternative_of _ n = None
+
+-- what a format says, if there is one: nothing stands before it
+abbrev pub some_format_on : Option Steps → List (Option Printer) → List Chunk → List Chunk
+some_format_on None ps rest = rest
+some_format_on (Some ss) ps rest = format_on a_word ss ps rest
 
 -- a part, where something is printed for it
 abbrev pub some_on : Option Printer → Printer
@@ -137,10 +166,11 @@ abbrev mutual
   piece_on f (node (value_of_kind sort n) ts) s rest = kind_on (slice_get (kinds_of f sort) n) (parts_on f ts) rest
   piece_on f (node list ts) s rest = members_on s (parts_on f ts) rest
   piece_on f (node item ts) s rest = format_on a_word (member_of s) (parts_on f ts) rest
+  piece_on f (node (chosen n) ts) s rest = some_format_on (alternative_of s n) (parts_on f ts) rest
   piece_on f (node (operands n) ts) s rest = rest
   piece_on f (node (successor n) ts) s rest = rest
   piece_on f (node region ts) s rest = rest
-  piece_on f (node (leaf x) ts) s rest = leaf_on s (leaf_text x) rest
+  piece_on f (node (leaf x) ts) s rest = leaf_on s (leaf_chunk x) rest
 
   -- the parts of one
   pub parts_on : Formats → Pieces → List (Option Printer)
@@ -248,7 +278,7 @@ abbrev mutual
   more_operations_on f n no_entity rest = rest
   more_operations_on f n (an_entity t ts) rest = token (codes ";") ∷ white (line n) ∷ operation_on f n t (more_operations_on f n ts rest)
 
--- the layout of an operation with all that stands in it
+-- the layout of an operation with all that stands in it, as bytes
 abbrev pub layout : Formats → Entity (List ℕ) → List ℕ
 layout f t = spell (operation_on f 0 t [])
 

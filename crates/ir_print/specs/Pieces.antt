@@ -11,8 +11,12 @@ pub data Leaf : Type 0 where
   name : List ℕ → Leaf
   -- a number: whether it is negative, and its magnitude
   number : Bool → ℕ → Leaf
+  -- a number that is written without a sign
+  unsigned : ℕ → Leaf
   -- the width of an integer: its sign, and its number of bits
   width : Signedness → ℕ → Leaf
+  -- a text in quotes, by the characters that it says
+  quoted : List ℕ → Leaf
 
 -- A piece of what a type, an attribute or an operation says, one for each directive of its format that is no literal. Kinds are
 -- given by their numbers in the dialect.
@@ -23,6 +27,8 @@ pub data Piece : Type 0 where
   list : Piece
   -- a member of a list, with its pieces below it
   item : Piece
+  -- what the format with this number says of those that might stand there, with its pieces below it
+  chosen : ℕ → Piece
   -- so many operands
   operands : ℕ → Piece
   -- an edge to another block, which hands on so many operands

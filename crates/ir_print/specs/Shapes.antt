@@ -1,5 +1,6 @@
 -- Which trees have the shape of a format.
-use Rattle.std.specs.Prelude.{◌≡◌, ℕ, ◌^◌, ◌<◌, List, [], ◌∷◌, Some, None, true, slice_get}
+use Rattle.std.specs.Prelude.{◌≡◌, ℕ, ◌^◌, ◌<◌, List, [], ◌∷◌, Option, Some, None, true, slice_get}
+use Rattle.std.specs.Str.{all_scalars}
 use Rattle.ir_base.specs.declared.types.TypeHandle.{TypeHandle}
 use Rattle.ir_names.specs.Text.{is_identifier}
 use Rattle.ir_names.specs.Tree.{LabelledTree, Trees, node, no_tree, a_tree}
@@ -8,8 +9,9 @@ use Rattle.ir_print.specs.Formats.{Formats, Kind, Step, Steps, no_steps, kinds_o
 use Rattle.ir_print.specs.declared.format.ValueSort.TheVariants as sorts
 use Rattle.ir_print.specs.declared.format.LeafSort.{LeafSort}
 use Rattle.ir_print.specs.declared.format.LeafSort.TheVariants as leaves
-use Rattle.ir_print.specs.Pieces.{Leaf, name, number, width, value_of_kind, list, item, operands, successor, region, leaf, refused_value, canonical_value, ValueTree, Pieces, Values}
-use Rattle.ir_print.specs.Shown.{Saying, ShowsAll, operands_said, Said, said_type, said_attribute, said_list, said_item, said_operands, said_successor, said_region, said_leaf}
+use Rattle.ir_print.specs.Pieces.{Leaf, name, number, unsigned, width, quoted, value_of_kind, list, item, chosen, operands, successor, region, leaf, refused_value, canonical_value, ValueTree, Pieces, Values}
+use Rattle.ir_print.specs.Layout.{alternative_of}
+use Rattle.ir_print.specs.Shown.{Saying, ShowsAll, operands_said, Said, said_type, said_attribute, said_list, said_item, said_choice, said_operands, said_successor, said_region, said_leaf}
 
 -- the steps of a format that are no words
 abbrev pub parts_in : Steps → List Step
@@ -22,11 +24,22 @@ abbrev pub IsListOf : Step → (List Step → Type 0) → Type 0
 IsListOf (step.list_of member printed text) P = P (parts_in member)
 IsListOf _ P = ⊥
 
+-- this is known of a format, if there is one
+abbrev pub IsKnownOf : Option Steps → (List Step → Type 0) → Type 0
+IsKnownOf None P = ⊥
+IsKnownOf (Some ss) P = P (parts_in ss)
+
+-- the step is a choice with a format of this number
+abbrev pub IsChoiceOf : Step → ℕ → (List Step → Type 0) → Type 0
+IsChoiceOf s n P = IsKnownOf (alternative_of s n) P
+
 -- the sort of a leaf
 abbrev pub sort_of : Leaf → LeafSort
 sort_of (name cs) = leaves.Name
 sort_of (number negative magnitude) = leaves.Number
+sort_of (unsigned magnitude) = leaves.Digits
 sort_of (width sign bits) = leaves.Width
+sort_of (quoted cs) = leaves.Text
 
 -- A step takes leaves of one sort; that of the name of a symbol takes names.
 abbrev pub TakesLeaf : Step → LeafSort → Type 0
@@ -34,11 +47,14 @@ TakesLeaf (step.a_leaf sort) s = sort ≡ s
 TakesLeaf step.symbol_name s = leaves.Name ≡ s
 TakesLeaf _ s = ⊥
 
--- A leaf can be read: a name is one, a number has at most 64 bits, and a width at most 32.
+-- A leaf can be read: a name is one, a number has at most 64 bits, with a sign or without one, and a width at most 32; a text in quotes
+-- says characters.
 abbrev pub IsInRange : Leaf → Type 0
 IsInRange (name cs) = is_identifier cs ≡ true
 IsInRange (number negative magnitude) = magnitude < 2 ^ 64
+IsInRange (unsigned magnitude) = magnitude < 2 ^ 64
 IsInRange (width sign bits) = bits < 2 ^ 32
+IsInRange (quoted cs) = all_scalars cs ≡ true
 
 -- A list of operands takes any number of them, and the step of one operand takes one.
 abbrev pub TakesOperands : Step → ℕ → Type 0
@@ -56,6 +72,7 @@ module _ {A : Type 0} where
     IsSaidAt s (node (said_attribute a) us) = s ≡ step.a_value sorts.Attribute
     IsSaidAt s (node said_list us) = IsListOf s (λ ss. AreMembersSaidAt ss us)
     IsSaidAt s (node said_item us) = ⊥
+    IsSaidAt s (node (said_choice n) us) = IsChoiceOf s n (λ ss. AreSaidAt ss us)
     IsSaidAt s (node (said_operands n) us) = TakesOperands s n
     IsSaidAt s (node (said_successor n) us) = s ≡ step.successor
     IsSaidAt s (node said_region us) = s ≡ step.a_region
@@ -85,6 +102,7 @@ module _ (f : Formats) (v : Values) where
         × (refused_value v sort n ts ≡ None) × (canonical_value v sort n ts ≡ ts)
     Fits s (node list ts) = IsListOf s (λ ss. FitMembers ss ts)
     Fits s (node item ts) = ⊥
+    Fits s (node (chosen n) ts) = IsChoiceOf s n (λ ss. FitAll ss ts)
     Fits s (node (operands n) ts) = TakesOperands s n
     Fits s (node (successor n) ts) = s ≡ step.successor
     Fits s (node region ts) = s ≡ step.a_region

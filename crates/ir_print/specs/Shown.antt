@@ -1,5 +1,5 @@
 -- Which types, attributes and operations of a context say what.
-use Rattle.std.specs.Prelude.{◌≡◌, ℕ, suc, ◌+◌, ◌^◌, ◌≤◌, Bool, List, [], ◌∷◌, Option, Some, None, slice_get, Vec}
+use Rattle.std.specs.Prelude.{◌≡◌, ℕ, suc, ◌+◌, ◌^◌, ◌≤◌, Bool, List, [], ◌∷◌, Option, Some, None, slice_get, Vec, chars, string_bytes}
 use Rattle.std.specs.Global.{Global}
 use Rattle.ir_base.specs.declared.types.TypeHandle.{TypeHandle}
 use Rattle.ir_names.specs.declared.kinds.Signedness.{Signedness}
@@ -12,7 +12,7 @@ use Rattle.ir_print.specs.declared.format.Part.TheVariants as part
 use Rattle.ir_print.specs.declared.format.ValueSort.TheVariants as sorts
 use Rattle.ir_print.specs.declared.format.LeafValue.{LeafValue}
 use Rattle.ir_print.specs.declared.format.LeafValue.TheVariants as read
-use Rattle.ir_print.specs.Pieces.{Leaf, name, number, width, value_of_kind, list, item, operands, successor, region, leaf, ValueTree, Pieces, Values}
+use Rattle.ir_print.specs.Pieces.{Leaf, name, number, unsigned, width, quoted, value_of_kind, list, item, chosen, operands, successor, region, leaf, ValueTree, Pieces, Values}
 
 -- A piece of what something in a context says. Types are given by their handles.
 pub data Said (A : Type 0) : Type 0 where
@@ -20,6 +20,8 @@ pub data Said (A : Type 0) : Type 0 where
   said_attribute : A → Said A
   -- a list, with its members below it, and a member, with what it says below it
   said_list said_item : Said A
+  -- what the format with this number says, with it below
+  said_choice : ℕ → Said A
   said_operands : ℕ → Said A
   -- an edge, which hands on so many operands
   said_successor : ℕ → Said A
@@ -42,6 +44,11 @@ abbrev pub IsNumber : Option Number → Bool → ℕ → Type 0
 IsNumber (Some n) negative magnitude = (n.is_negative ≡ negative) × (n.magnitude ≡ magnitude)
 IsNumber None negative magnitude = 2 ^ 64 ≤ magnitude
 
+-- the number without a sign that is read is this one; none is kept from 2^64 on
+abbrev pub AreDigitsOf : Option ℕ → ℕ → Type 0
+AreDigitsOf (Some n) magnitude = n ≡ magnitude
+AreDigitsOf None magnitude = 2 ^ 64 ≤ magnitude
+
 -- the number of bits that is read is this one; none is kept from 2^32 on
 abbrev pub IsWidth : Option ℕ → ℕ → Type 0
 IsWidth (Some w) bits = w ≡ bits
@@ -51,7 +58,9 @@ IsWidth None bits = 2 ^ 32 ≤ bits
 abbrev pub IsLeaf : LeafValue → Leaf → Type 0
 IsLeaf (read.Name id) (name cs) = text_of id ≡ cs
 IsLeaf (read.Number o) (number negative magnitude) = IsNumber o negative magnitude
+IsLeaf (read.Digits o) (unsigned magnitude) = AreDigitsOf o magnitude
 IsLeaf (read.Width s o) (width sign bits) = (s ≡ sign) × IsWidth o bits
+IsLeaf (read.Text s) (quoted cs) = chars (string_bytes s) ≡ cs
 IsLeaf _ _ = ⊥
 
 -- each of the first with the one of the second beside it, and neither has more
@@ -70,6 +79,7 @@ abbrev mutual
       (attr : A) × (us : Trees (Said A)) × (x ≡ alone (said_attribute attr)) × (says.of_attribute attr ≡ Some (n, us)) × ShowsAll says types us ts
   Shows {A = A} says types x (node list ts) = (us : Trees (Said A)) × (x ≡ node said_list us) × ShowsAll says types us ts
   Shows {A = A} says types x (node item ts) = (us : Trees (Said A)) × (x ≡ node said_item us) × ShowsAll says types us ts
+  Shows {A = A} says types x (node (chosen n) ts) = (us : Trees (Said A)) × (x ≡ node (said_choice n) us) × ShowsAll says types us ts
   Shows says types x (node (operands n) ts) = x ≡ alone (said_operands n)
   Shows says types x (node (successor n) ts) = x ≡ alone (said_successor n)
   Shows says types x (node region ts) = x ≡ alone said_region
@@ -101,6 +111,8 @@ abbrev mutual
   ShowsPart {D = D} {K = K} {A = A} {T = T} says types p (node list ts) =
       (ms : Vec (Vec (Part D K A T) Global) Global) × (p ≡ part.List ms) × ShowsMembers says types ms.items ts
   ShowsPart says types p (node item ts) = ⊥
+  ShowsPart {D = D} {K = K} {A = A} {T = T} says types p (node (chosen n) ts) =
+      (ps : Vec (Part D K A T) Global) × (p ≡ part.Choice n ps) × ShowsParts says types ps.items ts
   ShowsPart says types p (node (operands n) ts) = p ≡ part.Operands n
   ShowsPart says types p (node (successor n) ts) = p ≡ part.Successor n
   ShowsPart says types p (node region ts) = p ≡ part.Region

@@ -14,7 +14,9 @@ pub enum ValueSort {
 pub enum LeafSort {
     Name,
     Number,
+    Digits,
     Width,
+    Text,
 }
 
 /// One step of a format.
@@ -40,10 +42,16 @@ pub enum Directive {
     Name,
     /// A decimal number, which may begin with `-`.
     Number,
+    /// A decimal number without a sign.
+    Digits,
     /// `i`, `si` or `ui` and a number of bits.
     Width,
+    /// Characters in quotes, where `\"` and `\\` stand for `"` and `\`.
+    Text,
     /// What the directives say, none or more times, with this literal between two members.
     List(&'static [Directive], &'static str),
+    /// What one of these formats says. No two begin alike.
+    Choice(&'static [&'static [Directive]]),
 }
 
 /// A number as a text writes it.
@@ -59,8 +67,12 @@ pub enum LeafValue {
     Name(Identifier),
     /// None stands for a number past 64 bits.
     Number(Option<Number>),
+    /// None stands for a number past 64 bits.
+    Digits(Option<u64>),
     /// None stands for a width past 32 bits.
     Width(Signedness, Option<u32>),
+    /// What a text in quotes says.
+    Text(String),
 }
 
 /// A part of a value, one for each directive of its format that is no literal.
@@ -77,4 +89,6 @@ pub enum Part<D: Dialects> {
     Region,
     Leaf(LeafValue),
     List(Vec<Vec<Part<D>>>),
+    /// What the format with this number, from 0 on, says.
+    Choice(usize, Vec<Part<D>>),
 }

@@ -1,4 +1,5 @@
 pub mod verdicts
+pub mod Alternatives
 pub mod layouts
 pub mod trees
 pub mod DerivedReads

@@ -1,7 +1,9 @@
 -- From a layout of a tree back to the tree.
-use Rattle.std.proofs.Common.{◌≡◌, ℕ, ◌<◌, ◌^◌, List, [], ◌∷◌, ◌++◌, length, chars, sym, ap, subst, ◌∙◌}
+use Rattle.std.proofs.Common.{◌≡◌, ℕ, ◌<◌, ◌^◌, List, [], ◌∷◌, ◌++◌, length, chars, sym, ap, subst, ◌∙◌, arith}
+use Rattle.std.proofs.lemmas.Str.{length-le-encodes, encodes-chars}
 use Rattle.std.specs.Prelude.{IsUtf8}
 use Rattle.ir_print.specs.Pieces.{Entity}
+use Rattle.ir_print.specs.Layout.{spell}
 use Rattle.ir_print.specs.Printed.{value_name}
 use Rattle.ir_grammar.specs.declared.grammar.Grammar.{Grammar}
 use Rattle.ir_forest.specs.Closed.{IsClosedTree, IsNumbered, IsSameModule}
@@ -9,10 +11,10 @@ use Rattle.ir_rereading.specs.Printable.{IsLayoutOf, CanPrint}
 use Rattle.ir_rereading.specs.Texts.{Says}
 use Rattle.ir_formats.specs.Rules.{IsGrammarOf}
 use Rattle.ir_forest.specs.Language.{Language}
-use Rattle.ir_rereading.proofs.layouts.LayoutCharacters.{layout_characters}
+use Rattle.ir_rereading.proofs.layouts.LayoutCharacters.{layout_chunks}
 use Rattle.ir_rereading.proofs.layouts.LayoutPlain.{printed_bare}
-use Rattle.ir_rereading.proofs.layouts.LayoutTokens.{layout_utf8, layout_chars}
-use Rattle.ir_rereading.proofs.layouts.Marks.{characters, marks, IsSpelt}
+use Rattle.ir_rereading.proofs.layouts.LayoutTokens.{layout_coded}
+use Rattle.ir_rereading.proofs.layouts.Marks.{chunks, characters, marks, IsSpelt}
 use Rattle.ir_rereading.proofs.layouts.PrintedDefinitions.{printed_spelt}
 use Rattle.ir_rereading.proofs.ReadBack.{read_again}
 use Rattle.ir_rereading.proofs.trees.TreeClosed.{closed_renamed}
@@ -27,17 +29,28 @@ module _ (l : Language) (can : CanPrint l) (tree : Entity ℕ) (text : List ℕ)
   spelt : IsSpelt of.printed
   spelt = printed_spelt of.number of.small of.label of.printed tree of.named of.blocks there.edges
 
-  same_text : text ++ 10 ∷ [] ≡ characters (marks l.formats of.printed) ++ 10 ∷ []
-  same_text = ap (λ cs. cs ++ 10 ∷ []) (of.spelt ∙ layout_characters l.formats of.printed)
+  same_bytes : text ++ 10 ∷ [] ≡ spell (chunks (marks l.formats of.printed)) ++ 10 ∷ []
+  same_bytes = ap (λ cs. cs ++ 10 ∷ []) (of.spelt ∙ ap spell (sym (layout_chunks l.formats of.printed)))
+
+  coded : IsUtf8 (text ++ 10 ∷ []) × (chars (text ++ 10 ∷ []) ≡ characters (marks l.formats of.printed) ++ 10 ∷ [])
+  coded =
+      subst (λ bs. IsUtf8 bs × (chars bs ≡ characters (marks l.formats of.printed) ++ 10 ∷ [])) (sym same_bytes)
+      (layout_coded l.formats l.values of.printed can.printable there.fits spelt)
+
+  -- there are no more characters than bytes
+  few_characters : length (text ++ 10 ∷ []) < 2 ^ 63 → length (characters (marks l.formats of.printed) ++ 10 ∷ []) < 2 ^ 63
+  few_characters few =
+      let some = length-le-encodes (chars (text ++ 10 ∷ [])) in
+      let bytes = ap length (encodes-chars (text ++ 10 ∷ []) coded.0) in
+      let same = ap length coded.1 in
+      omega (arith, few, some, bytes, same)
 
   -- A text of a closed tree says a tree that is the same.
-  pub text_again : IsNumbered tree → (g : Grammar) → IsGrammarOf l.formats g → length (text ++ 10 ∷ []) < 2 ^ 63 → (again : Entity ℕ) × Says l (text ++ 10 ∷ []) again × IsSameModule again tree
+  pub text_again : IsNumbered tree → (g : Grammar) → IsGrammarOf l.formats g → length (text ++ 10 ∷ []) < 2 ^ 63 → (again : Entity ℕ) × Says l (chars (text ++ 10 ∷ [])) again × IsSameModule again tree
   text_again numbered g known few =
-      subst (λ cs. (again : Entity ℕ) × Says l cs again × IsSameModule again tree) (sym same_text)
-      (read_again l can.leads can.ordered can.printable can.outer g known tree of.printed ν of.label closed numbered of.named of.distinct spelt of.labelled (subst (λ cs. length cs < 2 ^ 63) same_text few))
+      subst (λ cs. (again : Entity ℕ) × Says l cs again × IsSameModule again tree) (sym coded.1)
+      (read_again l can.leads can.ordered can.printable can.outer g known tree of.printed ν of.label closed numbered of.named of.distinct spelt of.labelled (few_characters few))
 
-  -- Its bytes are its characters.
-  pub text_bytes : IsUtf8 (text ++ 10 ∷ []) × (chars (text ++ 10 ∷ []) ≡ text ++ 10 ∷ [])
-  text_bytes =
-      subst (λ cs. IsUtf8 cs × (chars cs ≡ cs)) (sym same_text)
-      (layout_utf8 l.formats l.values of.printed can.printable there.fits spelt, layout_chars l.formats l.values of.printed can.printable there.fits spelt)
+  -- Its bytes are UTF-8.
+  pub text_bytes : IsUtf8 (text ++ 10 ∷ [])
+  text_bytes = coded.0

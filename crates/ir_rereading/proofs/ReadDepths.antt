@@ -56,6 +56,7 @@ ends_even act.BeginOperands act.EndOperands d e = refl
 ends_even act.BeginSuccessor act.EndSuccessor d e = refl
 ends_even act.BeginList act.EndList d e = refl
 ends_even act.BeginItem act.EndItem d e = refl
+ends_even (act.BeginChoice n) act.EndChoice d e = refl
 ends_even _ _ d e = cc
 
 -- what stands alone opens nothing
@@ -116,6 +117,7 @@ module _ (v : Values) (text : ℕ → List ℕ) (flat : (n d : ℕ) (ps : Pieces
       (more_deep (λ e. AreFlat e (canonical_value v sort kind (pieces_in v text ts))) d e s (lt refl) (λ e s. canonical_flat sort kind e (pieces_in v text ts) (inner (d + 1) e s low)), more)
   piece_flat act.BeginList f l ts rest inner d e s lt low more = (inner d e s low, more)
   piece_flat act.BeginItem f l ts rest inner d e s lt low more = (inner d e s low, more)
+  piece_flat (act.BeginChoice n) f l ts rest inner d e s lt low more = (inner d e s low, more)
   piece_flat act.BeginOperands f l ts rest inner d e s lt low more = (tt, more)
   piece_flat act.BeginSuccessor f l ts rest inner d e s lt low more = (tt, more)
   piece_flat act.BeginRegion f l ts rest inner d e s lt low more = (tt, more)

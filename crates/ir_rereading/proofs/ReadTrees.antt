@@ -15,7 +15,7 @@ use Rattle.ir_forest.specs.Closed.{regions_said, number_in as entities_in, IsOpe
 use Rattle.ir_tokens.specs.Faults.{IsNamed}
 use Rattle.ir_forest.specs.Forest.{ActionSpan, IsForestOf}
 use Rattle.ir_forest.specs.Meaning.{pieces_in, typed, successors_in, operations_in, regions_in, blocks_in, renamed, all_renamed}
-use Rattle.ir_grammar.specs.Nesting.{Position, at_root, behind_root_results, at_end, in_operation, in_operands, in_successor, in_region, in_header, in_argument, in_block, behind_results, in_value, in_list, in_item, move}
+use Rattle.ir_grammar.specs.Nesting.{Position, at_root, behind_root_results, at_end, in_operation, in_operands, in_successor, in_region, in_header, in_argument, in_block, behind_results, in_value, in_list, in_item, in_choice, move}
 use Rattle.ir_formats.specs.Ordered.{is_ordered}
 use Rattle.ir_formats.specs.Ordered as ordered
 use Rattle.ir_formats.specs.Rules.{rules_of}
@@ -70,6 +70,7 @@ module _ (v : Values) (text : ℕ → List ℕ) where
   Shaped (in_value sort) names ts = Unit {0}
   Shaped in_list names ts = Unit {0}
   Shaped in_item names ts = Unit {0}
+  Shaped in_choice names ts = Unit {0}
 
   none : (p : Position) (names : List ℕ) → Shaped p names no_tree
   none at_root names = tt
@@ -86,6 +87,7 @@ module _ (v : Values) (text : ℕ → List ℕ) where
   none (in_value sort) names = tt
   none in_list names = tt
   none in_item names = tt
+  none in_choice names = tt
 
   -- what is known of the trees in a step
   abbrev Inner : Trees ActionSpan → Type 0
@@ -115,6 +117,7 @@ module _ (v : Values) (text : ℕ → List ℕ) where
     shape in_operation (act.Leaf sort) pl many c = more in_operation [] pl c
     shape in_operation (act.Begin sort kind) pl many c = more in_operation [] pl.1 c
     shape in_operation act.BeginList pl many c = more in_operation [] pl.1 c
+    shape in_operation (act.BeginChoice n) pl many c = more in_operation [] pl.1 c
     shape in_operation act.BeginOperands pl many c = more in_operation [] pl.1 c
     shape in_operation act.BeginSuccessor pl many c =
         let r = more in_operation [] pl.1 c in
@@ -141,6 +144,7 @@ module _ (v : Values) (text : ℕ → List ℕ) where
     shape (in_value sort) a pl many c = tt
     shape in_list a pl many c = tt
     shape in_item a pl many c = tt
+    shape in_choice a pl many c = tt
 
   -- steps that have their places, with as many names before operations as these have results
   pub shaped : (ts : Trees ActionSpan) (p : Position) (names : List ℕ) → Placed p ts → Counts v text names ts → Shaped p names ts

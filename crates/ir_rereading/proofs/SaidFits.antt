@@ -3,8 +3,10 @@ use Rattle.std.proofs.Common.{List, [], ◌∷◌, refl, subst}
 use Rattle.ir_names.specs.Tree.{LabelledTree, Trees, node, no_tree, a_tree}
 use Rattle.ir_print.specs.Formats as step
 use Rattle.ir_print.specs.Formats.{Formats, Step}
-use Rattle.ir_print.specs.Pieces.{value_of_kind, list, item, operands, successor, region, leaf, ValueTree, Pieces, Values}
+use Rattle.ir_print.specs.Pieces.{value_of_kind, list, item, chosen, operands, successor, region, leaf, ValueTree, Pieces, Values}
 use Rattle.ir_print.specs.Shown.{Said, Saying, Shows, ShowsAll}
+use Rattle.ir_print.specs.Layout.{alternative_of}
+use Rattle.ir_rereading.proofs.Alternatives.{known_along}
 use Rattle.ir_print.specs.declared.format.ValueSort.TheVariants as sorts
 use Rattle.ir_print.specs.Shapes.{parts_in, IsListOf, IsSaidAt, AreSaidAt, AreMembersSaidAt, IsMemberSaidAt, Fits, FitAll, FitMembers, FitsMember, SaysTypes, SaysAttributes}
 
@@ -18,6 +20,7 @@ list_map (step.a_value sort) P Q f h = absurd h
 list_map step.a_region P Q f h = absurd h
 list_map step.symbol_name P Q f h = absurd h
 list_map (step.a_leaf sort) P Q f h = absurd h
+list_map (step.choice_of cs) P Q f h = absurd h
 
 module _ {K A T : Type 0} (says : Saying K A T) (f : Formats) (v : Values) (types : List T) (say_types : SaysTypes says f v) (say_attributes : SaysAttributes says f v) where
   mutual
@@ -30,6 +33,7 @@ module _ {K A T : Type 0} (says : Saying K A T) (f : Formats) (v : Values) (type
         (subst (IsSaidAt s) h.2 at, said.kind, said.at, all_fit ts (parts_in said.kind.format) h.1 said.shaped h.4, said.read, said.canonical)
     shown_fits (node list ts) s u at h = list_map s (λ ss. AreMembersSaidAt ss h.0) (λ ss. FitMembers f v ss ts) (λ ss m. members_fit ts ss h.0 m h.2) (subst (IsSaidAt s) h.1 at)
     shown_fits (node item ts) s u at h = subst (IsSaidAt s) h.1 at
+    shown_fits (node (chosen n) ts) s u at h = known_along (alternative_of s n) (λ ss. AreSaidAt ss h.0) (λ ss. FitAll f v ss ts) (λ ss m. all_fit ts ss h.0 m h.2) (subst (IsSaidAt s) h.1 at)
     shown_fits (node (operands n) ts) s u at h = subst (IsSaidAt s) h at
     shown_fits (node (successor n) ts) s u at h = subst (IsSaidAt s) h at
     shown_fits (node region ts) s u at h = subst (IsSaidAt s) h at
@@ -53,6 +57,7 @@ module _ {K A T : Type 0} (says : Saying K A T) (f : Formats) (v : Values) (type
     member_fits (node (value_of_kind sorts.Attribute n) ts) ss u at h = absurd (subst (IsMemberSaidAt ss) h.2 at)
     member_fits (node list ts) ss u at h = absurd (subst (IsMemberSaidAt ss) h.1 at)
     member_fits (node item ts) ss u at h = all_fit ts ss h.0 (subst (IsMemberSaidAt ss) h.1 at) h.2
+    member_fits (node (chosen n) ts) ss u at h = absurd (subst (IsMemberSaidAt ss) h.1 at)
     member_fits (node (operands n) ts) ss u at h = absurd (subst (IsMemberSaidAt ss) h at)
     member_fits (node (successor n) ts) ss u at h = absurd (subst (IsMemberSaidAt ss) h at)
     member_fits (node region ts) ss u at h = absurd (subst (IsMemberSaidAt ss) h at)

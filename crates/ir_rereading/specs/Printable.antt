@@ -3,7 +3,7 @@ use Rattle.std.specs.Prelude.{◌≡◌, ℕ, ◌^◌, ◌<◌, ◌==◌, ◌&&�
 use Rattle.std.specs.List.{list_all}
 use Rattle.ir_names.specs.declared.identifier.Identifier.{Identifier}
 use Rattle.ir_print.specs.Formats as step
-use Rattle.ir_print.specs.Formats.{Formats, Kind, Step, Steps, no_steps}
+use Rattle.ir_print.specs.Formats.{Formats, Kind, Step, Steps, no_steps, Choices, no_choice, a_choice}
 use Rattle.ir_print.specs.Pieces.{Pieces, Values, EntityHead, block, Entity, entity, Entities, no_entity, an_entity}
 use Rattle.ir_print.specs.Layout.{layout, AreFlat}
 use Rattle.ir_print.specs.Printed.{value_name, label_front, block_name, IsLabel}
@@ -45,7 +45,7 @@ abbrev mutual
   HaveBlockNames (an_entity u us) (an_entity t ts) = HasBlockNames u t × HaveBlockNames us ts
   HaveBlockNames _ _ = ⊥
 
--- The text is one of the tree: its layout, in which values are named by numbers and blocks by their labels, slots and versions, no two
+-- The bytes are a text of the tree: its layout, in which values are named by numbers and blocks by their labels, slots and versions, no two
 -- values the same, and no two blocks of a region.
 pub record IsLayoutOf (f : Formats) (tree : Entity ℕ) (text : List ℕ) : Type 0 where
   -- the number in the name of each value
@@ -119,16 +119,21 @@ may_take (behind before) = ends_apart before
 may_take _ = true
 
 -- A format is printed as its tokens: no two of them run into one another, and words are words. Between members of lists stand
--- separators that run into nothing.
+-- separators that run into nothing. What is taken of several formats is a part, so that nothing before it or behind it runs into it.
 abbrev mutual
   pub is_step_apart : Step → Bool
   is_step_apart (step.list_of member printed text) = is_printed printed text && begins_apart printed && ends_apart printed && are_steps_apart part member
+  is_step_apart (step.choice_of cs) = are_choices_apart cs
   is_step_apart _ = true
 
   pub are_steps_apart : BoundaryBefore → Steps → Bool
   are_steps_apart edge no_steps = true
   are_steps_apart edge (step.step (step.word printed text) ss) = is_printed printed text && may_follow edge printed && are_steps_apart (behind printed) ss
   are_steps_apart edge (step.step s ss) = may_take edge && is_step_apart s && are_steps_apart part ss
+
+  pub are_choices_apart : Choices → Bool
+  are_choices_apart no_choice = true
+  are_choices_apart (a_choice ss cs) = are_steps_apart apart ss && are_choices_apart cs
 
 -- the id is a word, and the format is printed as its tokens
 abbrev pub is_kind_printable : Kind → Bool

@@ -65,6 +65,7 @@ abbrev pub tell : FaultKind → ℕ × ℕ → TextFault
 tell kinds.Syntax at = told.Syntax at.0 at.1
 tell kinds.Number at = told.Syntax at.0 at.1
 tell kinds.ResultNames at = told.Syntax at.0 at.1
+tell kinds.OtherConstant at = told.Syntax at.0 at.1
 tell kinds.TooDeep at = told.TooDeep at.0 at.1
 tell kinds.MultipleDefinitions at = told.Scope at.0 at.1 causes.MultipleDefinitions
 tell kinds.UnresolvedReference at = told.Scope at.0 at.1 causes.UnresolvedReference

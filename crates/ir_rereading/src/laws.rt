@@ -136,13 +136,13 @@ pub fn texts_have_one_answer()
         → (cs : List ℕ) (f : TextFault) (tree : Entity ℕ) → IsTextFault l cs f → Says l cs tree → ⊥ }
 {}
 
-/// What is printed of a closed tree is its characters as bytes, and is read again, as the same tree but for its labels.
+/// What is printed of a closed tree is UTF-8, and is read again, as the same tree but for its labels.
 pub fn printed_texts_are_read()
     ensures bytes { (l : Language) → CanPrint l → (tree : Entity ℕ) → (text : List ℕ) → IsClosedTree l tree
-        → IsLayoutOf l.formats tree text → IsUtf8 (text ++ 10 ∷ []) × (chars (text ++ 10 ∷ []) ≡ text ++ 10 ∷ []) }
+        → IsLayoutOf l.formats tree text → IsUtf8 (text ++ 10 ∷ []) }
     ensures read { (l : Language) → CanPrint l → (g : Grammar) → IsGrammarOf l.formats g → (tree : Entity ℕ)
         → (text : List ℕ) → IsClosedTree l tree → IsNumbered tree → IsLayoutOf l.formats tree text
-        → length (text ++ 10 ∷ []) < 2 ^ 63 → (again : Entity ℕ) × Says l (text ++ 10 ∷ []) again
+        → length (text ++ 10 ∷ []) < 2 ^ 63 → (again : Entity ℕ) × Says l (chars (text ++ 10 ∷ [])) again
         × IsSameModule again tree }
 {}
 

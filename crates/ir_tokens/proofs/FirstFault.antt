@@ -1,9 +1,10 @@
 -- The first of some faults.
-use Rattle.std.proofs.Common.{◌≡◌, ◌<◌, ◌≤◌, Option, Some, None, refl, sym, subst, ap, ◌∙◌, arith, inl, inr, ◌⊎◌}
+use Rattle.std.specs.Prelude.{slice_index_or}
+use Rattle.std.proofs.Common.{◌≡◌, ◌<◌, ◌≤◌, ℕ, [], ◌∷◌, Option, Some, None, refl, sym, subst, ap, ◌∙◌, arith, inl, inr, ◌⊎◌}
 use Rattle.std.proofs.lemmas.Bool.{cases_lt}
 use Rattle.ir_tokens.specs.declared.faults.Fault.{Fault}
 use Rattle.ir_tokens.specs.declared.faults.FaultKind.{FaultKind}
-use Rattle.ir_tokens.specs.declared.faults.FaultKind.TheVariants.{Syntax, Number, ResultNames, TooDeep, MultipleDefinitions, UnresolvedReference, TopLevelOpRegionNotIsolatedFromAbove}
+use Rattle.ir_tokens.specs.declared.faults.FaultKind.TheVariants.{Syntax, Number, ResultNames, OtherConstant, TooDeep, MultipleDefinitions, UnresolvedReference, TopLevelOpRegionNotIsolatedFromAbove}
 use Rattle.ir_tokens.specs.Faults.{row, FaultPrecedes, IsFirstOf, IsNamed}
 
 pub precedes_trans : (f g h : Fault) → FaultPrecedes f g → FaultPrecedes g h → FaultPrecedes f h
@@ -57,56 +58,22 @@ pub named_along : (P Q : Fault → Type 0) (o : Option Fault) → ((f : Fault) �
 named_along P Q None up down h = λ f q. h f (down f q)
 named_along P Q (Some f) up down h = (up f h.0, λ g q. h.1 g (down g q))
 
+-- the kinds by their rows
+abbrev kind_at : ℕ → FaultKind
+kind_at n = slice_index_or (Syntax ∷ Number ∷ ResultNames ∷ OtherConstant ∷ TooDeep ∷ MultipleDefinitions ∷ UnresolvedReference ∷ TopLevelOpRegionNotIsolatedFromAbove ∷ []) n Syntax
+
+row_back : (a : FaultKind) → kind_at (row a) ≡ a
+row_back Syntax = refl
+row_back Number = refl
+row_back ResultNames = refl
+row_back OtherConstant = refl
+row_back TooDeep = refl
+row_back MultipleDefinitions = refl
+row_back UnresolvedReference = refl
+row_back TopLevelOpRegionNotIsolatedFromAbove = refl
+
 same_row : (a b : FaultKind) → row a ≡ row b → a ≡ b
-same_row Syntax Syntax e = refl
-same_row Syntax Number e = absurd (omega (arith, e))
-same_row Syntax ResultNames e = absurd (omega (arith, e))
-same_row Syntax TooDeep e = absurd (omega (arith, e))
-same_row Syntax MultipleDefinitions e = absurd (omega (arith, e))
-same_row Syntax UnresolvedReference e = absurd (omega (arith, e))
-same_row Syntax TopLevelOpRegionNotIsolatedFromAbove e = absurd (omega (arith, e))
-same_row Number Syntax e = absurd (omega (arith, e))
-same_row Number Number e = refl
-same_row Number ResultNames e = absurd (omega (arith, e))
-same_row Number TooDeep e = absurd (omega (arith, e))
-same_row Number MultipleDefinitions e = absurd (omega (arith, e))
-same_row Number UnresolvedReference e = absurd (omega (arith, e))
-same_row Number TopLevelOpRegionNotIsolatedFromAbove e = absurd (omega (arith, e))
-same_row ResultNames Syntax e = absurd (omega (arith, e))
-same_row ResultNames Number e = absurd (omega (arith, e))
-same_row ResultNames ResultNames e = refl
-same_row ResultNames TooDeep e = absurd (omega (arith, e))
-same_row ResultNames MultipleDefinitions e = absurd (omega (arith, e))
-same_row ResultNames UnresolvedReference e = absurd (omega (arith, e))
-same_row ResultNames TopLevelOpRegionNotIsolatedFromAbove e = absurd (omega (arith, e))
-same_row TooDeep Syntax e = absurd (omega (arith, e))
-same_row TooDeep Number e = absurd (omega (arith, e))
-same_row TooDeep ResultNames e = absurd (omega (arith, e))
-same_row TooDeep TooDeep e = refl
-same_row TooDeep MultipleDefinitions e = absurd (omega (arith, e))
-same_row TooDeep UnresolvedReference e = absurd (omega (arith, e))
-same_row TooDeep TopLevelOpRegionNotIsolatedFromAbove e = absurd (omega (arith, e))
-same_row MultipleDefinitions Syntax e = absurd (omega (arith, e))
-same_row MultipleDefinitions Number e = absurd (omega (arith, e))
-same_row MultipleDefinitions ResultNames e = absurd (omega (arith, e))
-same_row MultipleDefinitions TooDeep e = absurd (omega (arith, e))
-same_row MultipleDefinitions MultipleDefinitions e = refl
-same_row MultipleDefinitions UnresolvedReference e = absurd (omega (arith, e))
-same_row MultipleDefinitions TopLevelOpRegionNotIsolatedFromAbove e = absurd (omega (arith, e))
-same_row UnresolvedReference Syntax e = absurd (omega (arith, e))
-same_row UnresolvedReference Number e = absurd (omega (arith, e))
-same_row UnresolvedReference ResultNames e = absurd (omega (arith, e))
-same_row UnresolvedReference TooDeep e = absurd (omega (arith, e))
-same_row UnresolvedReference MultipleDefinitions e = absurd (omega (arith, e))
-same_row UnresolvedReference UnresolvedReference e = refl
-same_row UnresolvedReference TopLevelOpRegionNotIsolatedFromAbove e = absurd (omega (arith, e))
-same_row TopLevelOpRegionNotIsolatedFromAbove Syntax e = absurd (omega (arith, e))
-same_row TopLevelOpRegionNotIsolatedFromAbove Number e = absurd (omega (arith, e))
-same_row TopLevelOpRegionNotIsolatedFromAbove ResultNames e = absurd (omega (arith, e))
-same_row TopLevelOpRegionNotIsolatedFromAbove TooDeep e = absurd (omega (arith, e))
-same_row TopLevelOpRegionNotIsolatedFromAbove MultipleDefinitions e = absurd (omega (arith, e))
-same_row TopLevelOpRegionNotIsolatedFromAbove UnresolvedReference e = absurd (omega (arith, e))
-same_row TopLevelOpRegionNotIsolatedFromAbove TopLevelOpRegionNotIsolatedFromAbove e = refl
+same_row a b e = sym (row_back a) ∙ ap kind_at e ∙ row_back b
 
 -- two that precede each other are one
 pub precedes_one : (f g : Fault) → FaultPrecedes f g → FaultPrecedes g f → f ≡ g

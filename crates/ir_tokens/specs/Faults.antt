@@ -4,7 +4,7 @@ use Rattle.ir_base.specs.declared.growth.GrowError.{GrowError}
 use Rattle.ir_base.specs.declared.growth.GrowError.TheVariants as growth
 use Rattle.ir_tokens.specs.declared.faults.Fault.{Fault}
 use Rattle.ir_tokens.specs.declared.faults.FaultKind.{FaultKind}
-use Rattle.ir_tokens.specs.declared.faults.FaultKind.TheVariants.{Syntax, Number, ResultNames, TooDeep, MultipleDefinitions, UnresolvedReference, TopLevelOpRegionNotIsolatedFromAbove}
+use Rattle.ir_tokens.specs.declared.faults.FaultKind.TheVariants.{Syntax, Number, ResultNames, OtherConstant, TooDeep, MultipleDefinitions, UnresolvedReference, TopLevelOpRegionNotIsolatedFromAbove}
 use Rattle.ir_tokens.specs.declared.faults.TextFault.{TextFault}
 use Rattle.ir_tokens.specs.declared.faults.TextFault.TheVariants.{Memory, CounterFull}
 
@@ -18,10 +18,11 @@ abbrev pub row : FaultKind → ℕ
 row Syntax = 0
 row Number = 1
 row ResultNames = 2
-row TooDeep = 3
-row MultipleDefinitions = 4
-row UnresolvedReference = 5
-row TopLevelOpRegionNotIsolatedFromAbove = 6
+row OtherConstant = 3
+row TooDeep = 4
+row MultipleDefinitions = 5
+row UnresolvedReference = 6
+row TopLevelOpRegionNotIsolatedFromAbove = 7
 
 -- The first fault is named where both stand: by the tokens at which they are met, then by kind, then by place.
 abbrev pub FaultPrecedes : Fault → Fault → Type 0

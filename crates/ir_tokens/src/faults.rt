@@ -37,6 +37,8 @@ pub enum FaultKind {
     Number,
     /// An operation has another number of names before `=` than results.
     ResultNames,
+    /// An operation takes no attribute like its own: a constant, say, has a type that its attribute gives.
+    OtherConstant,
     /// More than 64 regions, types and attributes are open.
     TooDeep,
     MultipleDefinitions,
@@ -54,10 +56,11 @@ impl FaultKind {
             FaultKind::Syntax => 0,
             FaultKind::Number => 1,
             FaultKind::ResultNames => 2,
-            FaultKind::TooDeep => 3,
-            FaultKind::MultipleDefinitions => 4,
-            FaultKind::UnresolvedReference => 5,
-            FaultKind::TopLevelOpRegionNotIsolatedFromAbove => 6,
+            FaultKind::OtherConstant => 3,
+            FaultKind::TooDeep => 4,
+            FaultKind::MultipleDefinitions => 5,
+            FaultKind::UnresolvedReference => 6,
+            FaultKind::TopLevelOpRegionNotIsolatedFromAbove => 7,
         }
     }
 }
@@ -106,7 +109,7 @@ pub enum TextFault {
     #[error("counter full")]
     CounterFull,
     /// No text of the grammar goes on at this line and column, or a number there is out of range, or an operation
-    /// there has a wrong number of names.
+    /// there has a wrong number of names or takes no such attribute.
     #[error("syntax at {0}:{1}")]
     Syntax(usize, usize),
     /// The 65th of regions, types and attributes in one another begins at this line and column.

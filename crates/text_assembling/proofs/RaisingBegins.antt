@@ -21,7 +21,7 @@ use Rattle.text_frames.specs.declared.opened.OpenOperation.{OpenOperation}
 use Rattle.ir_forest.specs.Forest.{ActionSpan}
 use Rattle.ir_forest.specs.Building as building
 use Rattle.ir_forest.specs.Building.{Built, with_begin, names_behind}
-use Rattle.ir_grammar.specs.Nesting.{Position, at_root, behind_root_results, at_end, in_operation, in_operands, in_successor, in_region, in_header, in_argument, in_block, behind_results, in_value, in_list, in_item, move}
+use Rattle.ir_grammar.specs.Nesting.{Position, at_root, behind_root_results, at_end, in_operation, in_operands, in_successor, in_region, in_header, in_argument, in_block, behind_results, in_value, in_list, in_item, in_choice, move}
 use Rattle.text_frames.specs.Opened.{IsFreshFrame}
 use Rattle.ir_formats.specs.Ordered.{Standing, moved_by}
 use Rattle.text_assembling.specs.Assembling.{Begun, HasMade, Stage, unmade_label, world_of}
@@ -63,6 +63,7 @@ root_becomes says values text w root (in_value sorts.«Type») to ts e h = absur
 root_becomes says values text w root (in_value sorts.Attribute) to ts e h = absurd h.1
 root_becomes says values text w root in_list to ts e h = absurd h.1
 root_becomes says values text w root in_item to ts e h = absurd h.1
+root_becomes says values text w root in_choice to ts e h = absurd h.1
 
 module _ {D K A T : Type 0} (says : Saying K A T) (values : Values) (text : ℕ → List ℕ) (w : PartialModule K A T) where
   -- the innermost of what is open is something else, at another position
@@ -91,6 +92,7 @@ module _ {D K A T : Type 0} (says : Saying K A T) (values : Values) (text : ℕ 
   raises_behind_root (body.Attribute n) f ts h = tt
   raises_behind_root (body.List ms) f ts h = tt
   raises_behind_root body.Item f ts h = tt
+  raises_behind_root (body.Choice n) f ts h = tt
   raises_behind_root (body.Operation o) f ts h = h
   raises_behind_root (body.Operands ks) f ts h = h
   raises_behind_root (body.Successor ks) f ts h = h
@@ -106,6 +108,7 @@ module _ {D K A T : Type 0} (says : Saying K A T) (values : Values) (text : ℕ 
   raises_among (body.Attribute n) f ts h = tt
   raises_among (body.List ms) f ts h = tt
   raises_among body.Item f ts h = tt
+  raises_among (body.Choice n) f ts h = tt
   raises_among (body.Operation o) f ts h = h
   raises_among (body.Operands ks) f ts h = h
   raises_among (body.Successor ks) f ts h = h
@@ -131,6 +134,7 @@ module _ {D K A T : Type 0} (says : Saying K A T) (values : Values) (text : ℕ 
   raised_becomes f (in_value sorts.Attribute) to ts e h = subst (λ (p : Position). IsRaised says values text w f p ts) (sym e) h
   raised_becomes f in_list to ts e h = subst (λ (p : Position). IsRaised says values text w f p ts) (sym e) h
   raised_becomes f in_item to ts e h = subst (λ (p : Position). IsRaised says values text w f p ts) (sym e) h
+  raised_becomes f in_choice to ts e h = subst (λ (p : Position). IsRaised says values text w f p ts) (sym e) h
 
   pub raises_becomes : (root : Option (Ptr Operation)) (f : Open D K A T) (at to : Position) (ts : Trees ActionSpan) (gs : List (Open D K A T)) (os : List building.Open) (qs : List Position)
       → Becomes at to → RaisesAll says values text w root f at ts gs os qs → RaisesAll says values text w root f to ts gs os qs
@@ -164,6 +168,7 @@ module _ (around : List Position) (next : Standing) where
   type_enters (in_value sorts.«Type») n h = ((in_value sorts.«Type»), cc, refl)
   type_enters (in_value sorts.Attribute) n h = ((in_value sorts.Attribute), cc, refl)
   type_enters in_item n h = (in_item, cc, refl)
+  type_enters in_choice n h = (in_choice, cc, refl)
   type_enters in_argument n h = (in_header, cc, refl)
   type_enters _ n h = cc
 
@@ -172,6 +177,7 @@ module _ (around : List Position) (next : Standing) where
   attribute_enters (in_value sorts.«Type») n h = ((in_value sorts.«Type»), cc, refl)
   attribute_enters (in_value sorts.Attribute) n h = ((in_value sorts.Attribute), cc, refl)
   attribute_enters in_item n h = (in_item, cc, refl)
+  attribute_enters in_choice n h = (in_choice, cc, refl)
   attribute_enters _ n h = cc
 
   pub list_enters : (p : Position) → moved_by (move p act.BeginList) around ≡ Some next → Enters in_list p around next
@@ -179,7 +185,16 @@ module _ (around : List Position) (next : Standing) where
   list_enters (in_value sorts.«Type») h = ((in_value sorts.«Type»), cc, refl)
   list_enters (in_value sorts.Attribute) h = ((in_value sorts.Attribute), cc, refl)
   list_enters in_item h = (in_item, cc, refl)
+  list_enters in_choice h = (in_choice, cc, refl)
   list_enters _ h = cc
+
+  pub choice_enters : (p : Position) (n : ℕ) → moved_by (move p (act.BeginChoice n)) around ≡ Some next → Enters in_choice p around next
+  choice_enters in_operation n h = (in_operation, cc, refl)
+  choice_enters (in_value sorts.«Type») n h = ((in_value sorts.«Type»), cc, refl)
+  choice_enters (in_value sorts.Attribute) n h = ((in_value sorts.Attribute), cc, refl)
+  choice_enters in_item n h = (in_item, cc, refl)
+  choice_enters in_choice n h = (in_choice, cc, refl)
+  choice_enters _ n h = cc
 
   pub item_enters : (p : Position) → moved_by (move p act.BeginItem) around ≡ Some next → Enters in_item p around next
   item_enters in_list h = (in_list, cc, refl)

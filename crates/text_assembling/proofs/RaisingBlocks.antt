@@ -43,7 +43,7 @@ use Rattle.text_frames.proofs.Ended.{outer_list, outer_of_region, outer_of_opera
 use Rattle.text_frames.proofs.Framing.{innermost}
 use Rattle.text_frames.proofs.LaterWorlds.{names_same, raised_later, are_ready_later, keeps_same, KeepsBlocks, all_keep_same, around_later}
 use Rattle.text_frames.proofs.Made.{block_ready}
-use Rattle.text_frames.proofs.Moving.{operation_out, region_out, type_out, attribute_out, operands_out, edge_out, item_out, list_out}
+use Rattle.text_frames.proofs.Moving.{operation_out, region_out, type_out, attribute_out, operands_out, edge_out, item_out, list_out, choice_out}
 use Rattle.text_assembling.specs.declared.assembling.Assembler.{Assembler}
 use Rattle.text_assembling.specs.Assembling.{Holds, IsUnrooted, Stage, all_open, numbers_of, blocks_of, unmade_block, unmade_label, unmade_labels, world_of, AreSettled, AreLabelled, HasMade}
 use Rattle.text_assembling.proofs.Held.{held_list, held_same}
@@ -272,7 +272,8 @@ module _ (around : List Position) (next : Standing) (p : Position) where
   may_end x (inr (inr (inr (inr (inl e))))) m = not_a_block p (λ h. cc (h, (operands_out around next p (subst (λ (z : Action). moved_by (move p z) around ≡ Some next) e m)).1))
   may_end x (inr (inr (inr (inr (inr (inl e)))))) m = not_a_block p (λ h. cc (h, (item_out around next p (subst (λ (z : Action). moved_by (move p z) around ≡ Some next) e m)).1))
   may_end x (inr (inr (inr (inr (inr (inr (inl e))))))) m = not_a_block p (λ h. cc (h, (list_out around next p (subst (λ (z : Action). moved_by (move p z) around ≡ Some next) e m)).1))
-  may_end x (inr (inr (inr (inr (inr (inr (inr e))))))) m = not_a_block p (λ h. cc (h, (edge_out around next p (subst (λ (z : Action). moved_by (move p z) around ≡ Some next) e m)).1))
+  may_end x (inr (inr (inr (inr (inr (inr (inr (inl e)))))))) m = not_a_block p (λ h. cc (h, (edge_out around next p (subst (λ (z : Action). moved_by (move p z) around ≡ Some next) e m)).1))
+  may_end x (inr (inr (inr (inr (inr (inr (inr (inr e)))))))) m = not_a_block p (λ h. cc (h, (choice_out around next p (subst (λ (z : Action). moved_by (move p z) around ≡ Some next) e m)).1))
 
 -- ---- a region that ends
 
@@ -317,14 +318,14 @@ module _ {D K A T : Type 0} (says : Saying K A T) (values : Values) (text : ℕ 
 
   pub region_raised : (b : Built) (at next : Standing) (last : ℕ) (r : Result (Unit {0}) AssemblyFault) → Holds says values text s.ctx.types whole b at → HasMade says values text start counter s whole b at names
       → moved_out at.around ≡ Some next → (first : ℕ) (bs : Vec (Ptr BasicBlock) Global) → f.body ≡ body.Region bs
-      → ((p : OpenOperation) → g.body ≡ body.Operation p → OnOk r ((q : OpenOperation) × HasPut g c.here (body.Operation q) part.Region first × (q.kind ≡ p.kind) × (q.operands ≡ p.operands) × (q.labels ≡ p.labels) × (q.regions.items ≡ p.regions.items ++ bs ∷ [])))
+      → ((p : OpenOperation) → g.body ≡ body.Operation p → OnOk r ((q : OpenOperation) × HasPut g c.here (body.Operation q) part.Region (first ∷ []) × (q.kind ≡ p.kind) × (q.operands ≡ p.operands) × (q.labels ≡ p.labels) × (q.regions.items ≡ p.regions.items ++ bs ∷ [])))
       → OnOk r (HasMade says values text start counter s c (with_end b.here b.around last) next names)
   region_raised b at next last r holds h out first bs is_region new =
       ends_made says values text start counter s s whole c f g rest names is_f is_around kept b at next last r holds h out
       (λ o os to qs ending inner all none_yet. (
       let outer = outer_of_region says values text s.ctx.types f g o at.here to b.here ending bs is_region in
       let p : OpenOperation = outer.0 in
-      let is_operation : g.body ≡ body.Operation p = outer.1 in on_ok_weaker r (λ (e : (q : OpenOperation) × HasPut g c.here (body.Operation q) part.Region first × (q.kind ≡ p.kind) × (q.operands ≡ p.operands) × (q.labels ≡ p.labels) × (q.regions.items ≡ p.regions.items ++ bs ∷ [])).
+      let is_operation : g.body ≡ body.Operation p = outer.1 in on_ok_weaker r (λ (e : (q : OpenOperation) × HasPut g c.here (body.Operation q) part.Region (first ∷ []) × (q.kind ≡ p.kind) × (q.operands ≡ p.operands) × (q.labels ≡ p.labels) × (q.regions.items ≡ p.regions.items ++ bs ∷ [])).
       (
       let place : to ≡ in_operation = subst (λ (x : Body D K A T). EndsAt (sort_of x) to) is_region ending.begun.ends in
       let begins : o.action ≡ act.BeginRegion = subst (λ (x : Body D K A T). Begins x o.action) is_region ending.begun.begins in

@@ -19,7 +19,7 @@ use Rattle.text_frames.specs.declared.opened.Open.{Open}
 use Rattle.ir_forest.specs.Forest.{ActionSpan}
 use Rattle.ir_forest.specs.Building.{Built, behind, with_leaf, names_behind}
 use Rattle.ir_forest.specs.Meaning.{pieces_in, operands_in, arguments_in, tokens_in, successors_in, by_operands, by_successor, by_region, by_label}
-use Rattle.ir_grammar.specs.Nesting.{Position, at_root, behind_root_results, in_operation, in_operands, in_successor, in_header, in_argument, in_block, behind_results, in_value, in_item, move}
+use Rattle.ir_grammar.specs.Nesting.{Position, at_root, behind_root_results, in_operation, in_operands, in_successor, in_header, in_argument, in_block, behind_results, in_value, in_item, in_choice, move}
 use Rattle.text_frames.specs.Opened.{HasOneMoreName, HasBody}
 use Rattle.ir_formats.specs.Ordered.{Standing, moved_by}
 use Rattle.text_frames.specs.Frames.{sort_at, sort_of, TakesParts}
@@ -67,6 +67,7 @@ unnamed_parts in_operation h ts = refl
 unnamed_parts (in_value sorts.«Type») h ts = refl
 unnamed_parts (in_value sorts.Attribute) h ts = refl
 unnamed_parts in_item h ts = refl
+unnamed_parts in_choice h ts = refl
 unnamed_parts _ h ts = absurd h
 
 pub no_root_parts : {P : Type 0} (at : Position) → TakesParts (sort_at at) → (names : List ℕ) → IsAroundRoot at names → P
@@ -74,6 +75,7 @@ no_root_parts in_operation h names r = absurd r
 no_root_parts (in_value sorts.«Type») h names r = absurd r
 no_root_parts (in_value sorts.Attribute) h names r = absurd r
 no_root_parts in_item h names r = absurd r
+no_root_parts in_choice h names r = absurd r
 no_root_parts _ h names r = absurd h
 
 module _ {D K A T : Type 0} (says : Saying K A T) (values : Values) (text : ℕ → List ℕ) (w : PartialModule K A T) where
@@ -86,6 +88,7 @@ module _ {D K A T : Type 0} (says : Saying K A T) (values : Values) (text : ℕ 
   raises_more (body.Attribute n) f g at to ts s us neutral first of_block h = tt
   raises_more (body.List ms) f g at to ts s us neutral first of_block h = tt
   raises_more body.Item f g at to ts s us neutral first of_block h = tt
+  raises_more (body.Choice n) f g at to ts s us neutral first of_block h = tt
   raises_more (body.Operands ks) f g at to ts s us neutral first of_block h = h
   raises_more (body.Successor ks) f g at to ts s us neutral first of_block h = (h.0, rw first h.1)
   raises_more (body.Operation o) f g at to ts s us neutral first of_block h = record {

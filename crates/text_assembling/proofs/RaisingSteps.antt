@@ -14,7 +14,7 @@ use Rattle.ir_formats.specs.Ordered.{Standing, moved_by, moved_out}
 use Rattle.text_frames.specs.Raised.{MayEnd, names_after}
 use Rattle.text_assembling.specs.Assembling.{HasMade, Stage}
 use Rattle.text_frames.specs.Worlds.{NameTokens}
-use Rattle.text_frames.proofs.Moving.{operation_out, region_out, block_out, type_out, attribute_out, operands_out, edge_out, item_out, list_out}
+use Rattle.text_frames.proofs.Moving.{operation_out, region_out, block_out, type_out, attribute_out, operands_out, edge_out, item_out, list_out, choice_out}
 use Rattle.text_assembling.proofs.RaisingBlocks.{may_end}
 use Rattle.text_assembling.proofs.RaisingLeaves.{none_more}
 use Rattle.ir_print.specs.declared.format.ValueSort.TheVariants as sorts
@@ -35,7 +35,8 @@ module _ (around : List Position) (next : Standing) (p : Position) where
   ends_out x (inr (inr (inr (inr (inl e))))) m = (operands_out around next p (subst (λ (z : Action). moved_by (move p z) around ≡ Some next) e m)).0
   ends_out x (inr (inr (inr (inr (inr (inl e)))))) m = (item_out around next p (subst (λ (z : Action). moved_by (move p z) around ≡ Some next) e m)).0
   ends_out x (inr (inr (inr (inr (inr (inr (inl e))))))) m = (list_out around next p (subst (λ (z : Action). moved_by (move p z) around ≡ Some next) e m)).0
-  ends_out x (inr (inr (inr (inr (inr (inr (inr e))))))) m = (edge_out around next p (subst (λ (z : Action). moved_by (move p z) around ≡ Some next) e m)).0
+  ends_out x (inr (inr (inr (inr (inr (inr (inr (inl e)))))))) m = (edge_out around next p (subst (λ (z : Action). moved_by (move p z) around ≡ Some next) e m)).0
+  ends_out x (inr (inr (inr (inr (inr (inr (inr (inr e)))))))) m = (choice_out around next p (subst (λ (z : Action). moved_by (move p z) around ≡ Some next) e m)).0
 
 module _ {D K A T : Type 0} (says : Saying K A T) (values : Values) (text : ℕ → List ℕ) (start : Seen K A T) (counter : ℕ) (t : Stage K A T) (c : Assembler D K A T) (b : Built) (next : Standing) (k : ℕ) (names : NameTokens) (r : Result (Unit {0}) AssemblyFault) where
   -- what is made after an action at a token
@@ -60,4 +61,5 @@ module _ {D K A T : Type 0} (says : Saying K A T) (values : Values) (text : ℕ 
       by x (inr (inr (inr (inr (inl e))))) y = made_by x act.EndOperands e y
       by x (inr (inr (inr (inr (inr (inl e)))))) y = made_by x act.EndItem e y
       by x (inr (inr (inr (inr (inr (inr (inl e))))))) y = made_by x act.EndList e y
-      by x (inr (inr (inr (inr (inr (inr (inr e))))))) y = made_by x act.EndSuccessor e y
+      by x (inr (inr (inr (inr (inr (inr (inr (inl e)))))))) y = made_by x act.EndSuccessor e y
+      by x (inr (inr (inr (inr (inr (inr (inr (inr e)))))))) y = made_by x act.EndChoice e y

@@ -1,5 +1,5 @@
 -- What ends and is a value, or has operands, keeps what has been made.
-use Rattle.std.proofs.Common.{◌≡◌, ◌∙◌, ◌⊎◌, inl, inr, ℕ, ◌+◌, List, [], ◌∷◌, ◌++◌, map, length, reverse, Option, Some, None, Result, OnOk, slice_get, Vec, refl, sym, ap, subst, append-nil}
+use Rattle.std.proofs.Common.{◌≡◌, ◌∙◌, inl, inr, ℕ, ◌+◌, List, [], ◌∷◌, ◌++◌, map, length, reverse, Option, Some, None, Result, OnOk, slice_get, Vec, refl, sym, ap, subst, append-nil}
 use Rattle.std.proofs.lemmas.List.{map-append, length-append}
 use Rattle.std.proofs.lemmas.Result.{on_ok_weaker}
 use Rattle.std.specs.Global.{Global}
@@ -25,14 +25,15 @@ use Rattle.ir_forest.specs.Forest.{ActionSpan}
 use Rattle.ir_forest.specs.Building as building
 use Rattle.ir_forest.specs.Building.{Built, with_end, behind, ended_tree, names_behind}
 use Rattle.ir_forest.specs.Meaning.{pieces_in, tokens_in, operands_in, successors_in, arguments_in, typed}
-use Rattle.ir_grammar.specs.Nesting.{Position, in_operation, in_operands, in_successor, in_header, in_argument, in_value, in_list, in_item}
-use Rattle.text_frames.specs.Opened.{HasPut}
+use Rattle.ir_grammar.specs.Nesting.{Position, in_operation, in_operands, in_successor, in_header, in_argument, in_value, in_list, in_item, in_choice}
+use Rattle.text_frames.specs.Opened.{HasMember, HasPut}
 use Rattle.ir_formats.specs.Ordered.{Standing, moved_out}
-use Rattle.text_frames.specs.Frames.{FrameSort, some_operands, an_edge, a_type, an_attribute, a_list, an_item, sort_at, sort_of, TakesParts, TakesTypes, EndsAt, Begins, SaysParts, Contains, Ending}
+use Rattle.text_frames.specs.Frames.{FrameSort, some_operands, an_edge, a_type, an_attribute, a_list, an_item, a_choice, sort_at, sort_of, TakesParts, TakesTypes, EndsAt, Begins, SaysParts, Contains, Ending}
 use Rattle.text_assembling.specs.Assembling.{Holds, Stage, numbers_of, blocks_of, unmade_label, world_of, HasMade}
 use Rattle.text_frames.specs.Worlds.{NameTokens, PartialModule, AreAmong}
 use Rattle.text_frames.specs.Raised.{blocks_of_body, begun_at, argument_tokens, last_argument, listed, named_tokens, IsAroundRoot, IsHeader, RaisesBlock, Raises, IsRaised}
 use Rattle.text_frames.proofs.BuiltBehind.{operations_behind, regions_behind, operands_behind, successors_behind, arguments_behind, argument_tokens_behind, has_header_behind, result_names_behind, listed_behind, listed_length, typed_longer, typed_more}
+use Rattle.text_frames.proofs.Ended.{type_place}
 use Rattle.text_frames.proofs.LaterWorlds.{raised_later}
 use Rattle.ir_forest.proofs.PiecesBehind.{name_behind}
 use Rattle.text_assembling.proofs.RaisingBegins.{raised_here}
@@ -50,6 +51,7 @@ IsValue a_type = Unit {0}
 IsValue an_attribute = Unit {0}
 IsValue a_list = Unit {0}
 IsValue an_item = Unit {0}
+IsValue a_choice = Unit {0}
 IsValue some_operands = Unit {0}
 IsValue an_edge = Unit {0}
 IsValue _ = ⊥
@@ -59,6 +61,7 @@ no_blocks (body.«Type» n) h = refl
 no_blocks (body.Attribute n) h = refl
 no_blocks (body.List ms) h = refl
 no_blocks body.Item h = refl
+no_blocks (body.Choice n) h = refl
 no_blocks (body.Operands ks) h = refl
 no_blocks (body.Successor ks) h = refl
 no_blocks _ h = absurd h
@@ -72,6 +75,7 @@ value_unnamed (in_value sorts.«Type») ts h = refl
 value_unnamed (in_value sorts.Attribute) ts h = refl
 value_unnamed in_list ts h = refl
 value_unnamed in_item ts h = refl
+value_unnamed in_choice ts h = refl
 value_unnamed in_operands ts h = refl
 value_unnamed in_successor ts h = refl
 value_unnamed _ ts h = absurd h
@@ -81,6 +85,7 @@ begun_parts in_operation h = refl
 begun_parts (in_value sorts.«Type») h = refl
 begun_parts (in_value sorts.Attribute) h = refl
 begun_parts in_item h = refl
+begun_parts in_choice h = refl
 begun_parts _ h = absurd h
 
 -- ---- a value that ends
@@ -126,9 +131,9 @@ module _ {D K A T : Type 0} (says : Saying K A T) (values : Values) (text : ℕ 
       (raised_later says values text w v later g (begun_at q) o.before (λ p i h. block_stays s t only p) outer))))
 
   -- one more part stands in what is around it
-  part_leaves : (o : building.Open) (q : Position) (ts : Trees ActionSpan) (last k : ℕ) (p : Part D K A T) → IsNeutral o.action → TakesParts (sort_at q) → sort_of g.body ≡ sort_at q → HasPut g c.here g.body p k
+  part_leaves : (o : building.Open) (q : Position) (ts : Trees ActionSpan) (last : ℕ) (ks : List ℕ) (p : Part D K A T) → IsNeutral o.action → TakesParts (sort_at q) → sort_of g.body ≡ sort_at q → HasPut g c.here g.body p ks
       → IsRaised says values text (world_of t c names) g (begun_at q) o.before → Leaves o q ts last
-  part_leaves o q ts last k p neutral takes sort put old = record {
+  part_leaves o q ts last ks p neutral takes sort put old = record {
     inner = λ r. no_root_parts q takes (names_behind [] o.before) (subst (λ (x : Position). IsAroundRoot x (names_behind [] o.before)) (begun_parts q takes) r);
     numbers = ap (λ (v : Vec ℕ Global). v.items) put.numbers;
     blocks = ap blocks_of_body put.body;
@@ -139,8 +144,8 @@ module _ {D K A T : Type 0} (says : Saying K A T) (values : Values) (text : ℕ 
 
 -- ---- a type in a header
 
-module _ {D K A T : Type 0} (says : Saying K A T) (values : Values) (text : ℕ → List ℕ) (w : PartialModule K A T) (g h : Open D K A T) (ts us : Trees ActionSpan) (kind first last k : ℕ) (ty : TypeHandle)
-    (put : HasPut g h g.body (part.«Type» ty) k) (shows : ShowsType says w.ctx.types ty (node (value_of_kind sorts.«Type» kind) (pieces_in values text us))) where
+module _ {D K A T : Type 0} (says : Saying K A T) (values : Values) (text : ℕ → List ℕ) (w : PartialModule K A T) (g h : Open D K A T) (ts us : Trees ActionSpan) (kind first last : ℕ) (ks : List ℕ) (ty : TypeHandle)
+    (put : HasPut g h g.body (part.«Type» ty) ks) (shows : ShowsType says w.ctx.types ty (node (value_of_kind sorts.«Type» kind) (pieces_in values text us))) where
   header_type : IsHeader says values text w g in_argument ts → IsHeader says values text w h in_header (behind ts (node (record { action = act.Begin sorts.«Type» kind; first = first; last = last }) us))
   header_type old =
       let step : ActionSpan = record { action = act.Begin sorts.«Type» kind; first = first; last = last } in
@@ -183,14 +188,6 @@ module _ {D K A T : Type 0} (says : Saying K A T) (values : Values) (text : ℕ 
 
 -- ---- each of the values
 
-type_place : (q : Position) → TakesTypes q → (q ≡ in_header) ⊎ TakesParts (sort_at q)
-type_place in_header h = inl refl
-type_place in_operation h = inr tt
-type_place (in_value sorts.«Type») h = inr tt
-type_place (in_value sorts.Attribute) h = inr tt
-type_place in_item h = inr tt
-type_place _ h = absurd h
-
 neutral_type : (n : ℕ) → IsNeutral (act.Begin sorts.«Type» n)
 neutral_type n = record { region = λ x y. refl; block = λ x y. refl; operand = λ xs. refl; edge = λ xs. refl }
 
@@ -200,6 +197,9 @@ neutral_attribute n = record { region = λ x y. refl; block = λ x y. refl; oper
 neutral_list : IsNeutral act.BeginList
 neutral_list = record { region = λ x y. refl; block = λ x y. refl; operand = λ xs. refl; edge = λ xs. refl }
 
+neutral_choice : (n : ℕ) → IsNeutral (act.BeginChoice n)
+neutral_choice n = record { region = λ x y. refl; block = λ x y. refl; operand = λ xs. refl; edge = λ xs. refl }
+
 module _ {D K A T : Type 0} (says : Saying K A T) (values : Values) (text : ℕ → List ℕ) (start : Seen K A T) (counter : ℕ) (s t : Stage K A T) (whole c : Assembler D K A T) (f g : Open D K A T) (rest : List (Open D K A T))
     (names : NameTokens) (is_f : whole.here ≡ f) (is_around : whole.around.items ≡ rest ++ g ∷ []) (kept : c.around.items ≡ rest) (only : OnlyTypes s t) (made : c.made ≡ whole.made)
     (b : Built) (at next : Standing) (last : ℕ) (r : Result (Unit {0}) AssemblyFault) (holds : Holds says values text s.ctx.types whole b at) (has : HasMade says values text start counter s whole b at names) (out : moved_out at.around ≡ Some next) where
@@ -208,7 +208,7 @@ module _ {D K A T : Type 0} (says : Saying K A T) (values : Values) (text : ℕ 
 
   -- a type that ends is a part, or that of the last argument
   pub type_raised : (kind first : ℕ) → f.body ≡ body.«Type» kind
-      → ((ps : Pieces) → ShowsParts says s.ctx.types f.content.value.parts.items ps → OnOk r ((values.refused_type kind ps ≡ None) × (ty : TypeHandle) × ShowsType says t.ctx.types ty (node (value_of_kind sorts.«Type» kind) ps) × HasPut g c.here g.body (part.«Type» ty) first))
+      → ((ps : Pieces) → ShowsParts says s.ctx.types f.content.value.parts.items ps → OnOk r ((values.refused_type kind ps ≡ None) × (ty : TypeHandle) × ShowsType says t.ctx.types ty (node (value_of_kind sorts.«Type» kind) ps) × HasPut g c.here g.body (part.«Type» ty) (first ∷ [])))
       → OnOk r (HasMade says values text start counter t c (with_end b.here b.around last) next names)
   type_raised kind first is new =
       value_ends says values text start counter s t whole c f g rest names is_f is_around kept only made b at next last r holds has out (subst (λ (x : Body D K A T). IsValue (sort_of x)) (sym is) tt)
@@ -216,7 +216,7 @@ module _ {D K A T : Type 0} (says : Saying K A T) (values : Values) (text : ℕ 
       let place : TakesTypes q = subst (λ (x : Body D K A T). EndsAt (sort_of x) q) is ending.begun.ends in
       let begins : o.action ≡ act.Begin sorts.«Type» kind = subst (λ (x : Body D K A T). Begins x o.action) is ending.begun.begins in
       let parts : SaysParts says values text s.ctx.types f.content.value b.here = subst (λ (x : Body D K A T). Contains says values text s.ctx.types x f.content.value b.here) is ending.frame.contains in
-      on_ok_weaker r (λ (x : (values.refused_type kind (pieces_in values text b.here) ≡ None) × (ty : TypeHandle) × ShowsType says t.ctx.types ty (node (value_of_kind sorts.«Type» kind) (pieces_in values text b.here)) × HasPut g c.here g.body (part.«Type» ty) first).
+      on_ok_weaker r (λ (x : (values.refused_type kind (pieces_in values text b.here) ≡ None) × (ty : TypeHandle) × ShowsType says t.ctx.types ty (node (value_of_kind sorts.«Type» kind) (pieces_in values text b.here)) × HasPut g c.here g.body (part.«Type» ty) (first ∷ [])).
       elim (type_place q place) [
         | inl e ↦ record {
           inner = λ i. subst (λ (p : Position). IsAroundRoot (begun_at p) (names_behind [] o.before)) e i;
@@ -225,14 +225,14 @@ module _ {D K A T : Type 0} (says : Saying K A T) (values : Values) (text : ℕ 
           label = unmade_same g c.here x.3.body x.3.first;
           raised = subst (λ (p : Position). IsRaised says values text v c.here p (behind o.before (ended_tree o b.here last))) (sym e)
               (subst (λ (a : Action). IsRaised says values text v c.here in_header (behind o.before (node (record { action = a; first = o.first; last = last }) b.here))) (sym begins)
-              (raised_type says values text v g c.here o.before b.here kind o.first last first x.1 x.3 x.2 (subst (λ (p : Position). IsRaised says values text v g (begun_at p) o.before) e outer)));
+              (raised_type says values text v g c.here o.before b.here kind o.first last (first ∷ []) x.1 x.3 x.2 (subst (λ (p : Position). IsRaised says values text v g (begun_at p) o.before) e outer)));
         }
-        | inr takes ↦ part_leaves says values text start counter s t whole c f g rest names is_f is_around kept only made o q b.here last first (part.«Type» x.1)
+        | inr takes ↦ part_leaves says values text start counter s t whole c f g rest names is_f is_around kept only made o q b.here last (first ∷ []) (part.«Type» x.1)
             (subst IsNeutral (sym begins) (neutral_type kind)) takes ending.outer.sort x.3 outer
       ]) (new (pieces_in values text b.here) parts.parts)))
 
   pub attribute_raised : (kind first : ℕ) → f.body ≡ body.Attribute kind
-      → ((ps : Pieces) → ShowsParts says s.ctx.types f.content.value.parts.items ps → OnOk r ((values.refused_attribute kind ps ≡ None) × (attr : A) × ShowsAttribute says t.ctx.types attr (node (value_of_kind sorts.Attribute kind) (values.canonical kind ps)) × HasPut g c.here g.body (part.Attribute attr) first))
+      → ((ps : Pieces) → ShowsParts says s.ctx.types f.content.value.parts.items ps → OnOk r ((values.refused_attribute kind ps ≡ None) × (attr : A) × ShowsAttribute says t.ctx.types attr (node (value_of_kind sorts.Attribute kind) (values.canonical kind ps)) × HasPut g c.here g.body (part.Attribute attr) (first ∷ [])))
       → OnOk r (HasMade says values text start counter t c (with_end b.here b.around last) next names)
   attribute_raised kind first is new =
       value_ends says values text start counter s t whole c f g rest names is_f is_around kept only made b at next last r holds has out (subst (λ (x : Body D K A T). IsValue (sort_of x)) (sym is) tt)
@@ -240,43 +240,56 @@ module _ {D K A T : Type 0} (says : Saying K A T) (values : Values) (text : ℕ 
       let takes : TakesParts (sort_at q) = subst (λ (x : Body D K A T). EndsAt (sort_of x) q) is ending.begun.ends in
       let begins : o.action ≡ act.Begin sorts.Attribute kind = subst (λ (x : Body D K A T). Begins x o.action) is ending.begun.begins in
       let parts : SaysParts says values text s.ctx.types f.content.value b.here = subst (λ (x : Body D K A T). Contains says values text s.ctx.types x f.content.value b.here) is ending.frame.contains in
-      on_ok_weaker r (λ (x : (values.refused_attribute kind (pieces_in values text b.here) ≡ None) × (attr : A) × ShowsAttribute says t.ctx.types attr (node (value_of_kind sorts.Attribute kind) (values.canonical kind (pieces_in values text b.here))) × HasPut g c.here g.body (part.Attribute attr) first).
-      part_leaves says values text start counter s t whole c f g rest names is_f is_around kept only made o q b.here last first (part.Attribute x.1)
+      on_ok_weaker r (λ (x : (values.refused_attribute kind (pieces_in values text b.here) ≡ None) × (attr : A) × ShowsAttribute says t.ctx.types attr (node (value_of_kind sorts.Attribute kind) (values.canonical kind (pieces_in values text b.here))) × HasPut g c.here g.body (part.Attribute attr) (first ∷ [])).
+      part_leaves says values text start counter s t whole c f g rest names is_f is_around kept only made o q b.here last (first ∷ []) (part.Attribute x.1)
       (subst IsNeutral (sym begins) (neutral_attribute kind)) takes ending.outer.sort x.3 outer) (new (pieces_in values text b.here) parts.parts)))
 
-  pub list_raised : (first : ℕ) (ms : Vec (Vec (Part D K A T) Global) Global) → f.body ≡ body.List ms → OnOk r (HasPut g c.here g.body (part.List ms) first)
+  pub list_raised : (ks : List ℕ) (ms : Vec (Vec (Part D K A T) Global) Global) → f.body ≡ body.List ms → OnOk r (HasPut g c.here g.body (part.List ms) ks)
       → OnOk r (HasMade says values text start counter t c (with_end b.here b.around last) next names)
-  list_raised first ms is new =
+  list_raised ks ms is new =
       value_ends says values text start counter s t whole c f g rest names is_f is_around kept only made b at next last r holds has out (subst (λ (x : Body D K A T). IsValue (sort_of x)) (sym is) tt)
       (λ o q ending inner outer. (
       let takes : TakesParts (sort_at q) = subst (λ (x : Body D K A T). EndsAt (sort_of x) q) is ending.begun.ends in
       let begins : o.action ≡ act.BeginList = subst (λ (x : Body D K A T). Begins x o.action) is ending.begun.begins in
-      on_ok_weaker r (λ (x : HasPut g c.here g.body (part.List ms) first).
-      part_leaves says values text start counter s t whole c f g rest names is_f is_around kept only made o q b.here last first (part.List ms)
+      on_ok_weaker r (λ (x : HasPut g c.here g.body (part.List ms) ks).
+      part_leaves says values text start counter s t whole c f g rest names is_f is_around kept only made o q b.here last ks (part.List ms)
       (subst IsNeutral (sym begins) neutral_list) takes ending.outer.sort x outer) new))
 
-  -- a member is one more of a list
-  pub item_raised : (parts : Vec (Part D K A T) Global) (ms : Vec (Vec (Part D K A T) Global) Global) → f.body ≡ body.Item → g.body ≡ body.List ms
-      → OnOk r ((ns : Vec (Vec (Part D K A T) Global) Global) × (c.here ≡ record g { body = body.List ns }) × (ns.items ≡ ms.items ++ parts ∷ []))
+  pub choice_raised : (ks : List ℕ) (n : ℕ) (ps : Vec (Part D K A T) Global) → f.body ≡ body.Choice n → OnOk r (HasPut g c.here g.body (part.Choice n ps) ks)
       → OnOk r (HasMade says values text start counter t c (with_end b.here b.around last) next names)
-  item_raised parts ms is is_list new =
+  choice_raised ks n ps is new =
+      value_ends says values text start counter s t whole c f g rest names is_f is_around kept only made b at next last r holds has out (subst (λ (x : Body D K A T). IsValue (sort_of x)) (sym is) tt)
+      (λ o q ending inner outer. (
+      let takes : TakesParts (sort_at q) = subst (λ (x : Body D K A T). EndsAt (sort_of x) q) is ending.begun.ends in
+      let begins : o.action ≡ act.BeginChoice n = subst (λ (x : Body D K A T). Begins x o.action) is ending.begun.begins in
+      on_ok_weaker r (λ (x : HasPut g c.here g.body (part.Choice n ps) ks).
+      part_leaves says values text start counter s t whole c f g rest names is_f is_around kept only made o q b.here last ks (part.Choice n ps)
+      (subst IsNeutral (sym begins) (neutral_choice n)) takes ending.outer.sort x outer) new))
+
+  -- a member is one more of a list
+  pub item_raised : (parts : Vec (Part D K A T) Global) (ms : Vec (Vec (Part D K A T) Global) Global) (ks : List ℕ) → f.body ≡ body.Item → g.body ≡ body.List ms
+      → OnOk r ((ns : Vec (Vec (Part D K A T) Global) Global) × HasMember g c.here (body.List ns) ks × (ns.items ≡ ms.items ++ parts ∷ []))
+      → OnOk r (HasMade says values text start counter t c (with_end b.here b.around last) next names)
+  item_raised parts ms ks is is_list new =
       value_ends says values text start counter s t whole c f g rest names is_f is_around kept only made b at next last r holds has out (subst (λ (x : Body D K A T). IsValue (sort_of x)) (sym is) tt)
       (λ o q ending inner outer. (
       let place : q ≡ in_list = subst (λ (x : Body D K A T). EndsAt (sort_of x) q) is ending.begun.ends in
       let more : Trees ActionSpan = behind o.before (ended_tree o b.here last) in
       let old : IsRaised says values text v g in_list o.before = subst (λ (p : Position). IsRaised says values text v g (begun_at p) o.before) place outer in
-      on_ok_weaker r (λ (x : (ns : Vec (Vec (Part D K A T) Global) Global) × (c.here ≡ record g { body = body.List ns }) × (ns.items ≡ ms.items ++ parts ∷ [])). record {
+      on_ok_weaker r (λ (x : (ns : Vec (Vec (Part D K A T) Global) Global) × HasMember g c.here (body.List ns) ks × (ns.items ≡ ms.items ++ parts ∷ [])). record {
         inner = λ i. subst (λ (p : Position). IsAroundRoot (begun_at p) (names_behind [] o.before)) place i;
-        numbers = ap (λ (y : Open D K A T). y.numbers.items) x.1;
-        blocks = ap (λ (y : Open D K A T). blocks_of_body y.body) x.1 ∙ sym (ap blocks_of_body is_list);
-        label = ap (λ (y : Open D K A T). unmade_label y.body y.first) x.1 ∙ sym (ap (λ (y : Body D K A T). unmade_label y g.first) is_list);
-        raised = subst (λ (p : Position). IsRaised says values text v c.here p more) (sym place)
-            (subst (λ (y : Open D K A T). IsRaised says values text v y in_list more) (sym x.1) (record { made = tt; numbered = old.numbered }));
+        numbers = ap (λ (ns : Vec ℕ Global). ns.items) x.1.numbers;
+        blocks = ap blocks_of_body x.1.body ∙ sym (ap blocks_of_body is_list);
+        label = ap (λ (y : Body D K A T). unmade_label y c.here.first) x.1.body ∙ sym (ap (λ (y : Body D K A T). unmade_label y g.first) is_list);
+        raised = subst (λ (p : Position). IsRaised says values text v c.here p more) (sym place) (record {
+          made = subst (λ (y : Body D K A T). Raises says values text v y c.here in_list more) (sym x.1.body) tt;
+          numbered = rw x.1.numbers old.numbered;
+        });
       }) new))
 
   -- operands are those of the operation around them
   pub operands_raised : (first : ℕ) (ks : Vec ℕ Global) (p : OpenOperation) → f.body ≡ body.Operands ks → g.body ≡ body.Operation p
-      → OnOk r ((q : OpenOperation) × HasPut g c.here (body.Operation q) (part.Operands (length ks.items)) first × (q.kind ≡ p.kind) × (q.regions ≡ p.regions) × (q.labels ≡ p.labels) × (q.operands.items ≡ p.operands.items ++ ks.items))
+      → OnOk r ((q : OpenOperation) × HasPut g c.here (body.Operation q) (part.Operands (length ks.items)) (first ∷ []) × (q.kind ≡ p.kind) × (q.regions ≡ p.regions) × (q.labels ≡ p.labels) × (q.operands.items ≡ p.operands.items ++ ks.items))
       → OnOk r (HasMade says values text start counter t c (with_end b.here b.around last) next names)
   operands_raised first ks p is is_operation new =
       value_ends says values text start counter s t whole c f g rest names is_f is_around kept only made b at next last r holds has out (subst (λ (x : Body D K A T). IsValue (sort_of x)) (sym is) tt)
@@ -288,7 +301,7 @@ module _ {D K A T : Type 0} (says : Saying K A T) (values : Values) (text : ℕ 
       let among : AreAmong ks.items names.mentions = subst (λ (x : Body D K A T). Raises says values text v x f at.here b.here) is inner.made in
       let old : IsRaised says values text v g in_operation o.before = subst (λ (x : Position). IsRaised says values text v g (begun_at x) o.before) place outer in
       let known : Raises says values text v (body.Operation p) g in_operation o.before = subst (λ (x : Body D K A T). Raises says values text v x g in_operation o.before) is_operation old.made in
-      on_ok_weaker r (λ (x : (n : OpenOperation) × HasPut g c.here (body.Operation n) (part.Operands (length ks.items)) first × (n.kind ≡ p.kind) × (n.regions ≡ p.regions) × (n.labels ≡ p.labels) × (n.operands.items ≡ p.operands.items ++ ks.items)). record {
+      on_ok_weaker r (λ (x : (n : OpenOperation) × HasPut g c.here (body.Operation n) (part.Operands (length ks.items)) (first ∷ []) × (n.kind ≡ p.kind) × (n.regions ≡ p.regions) × (n.labels ≡ p.labels) × (n.operands.items ≡ p.operands.items ++ ks.items)). record {
         inner = λ i. subst (λ (y : Position). IsAroundRoot (begun_at y) (names_behind [] o.before)) place i;
         numbers = ap (λ (ns : Vec ℕ Global). ns.items) x.1.numbers;
         blocks = ap blocks_of_body x.1.body ∙ (ap (λ (rs : Vec (Vec (Ptr BasicBlock) Global) Global). joined (map (λ (bs : Vec (Ptr BasicBlock) Global). bs.items) rs.items)) x.3 ∙ sym (ap blocks_of_body is_operation));
@@ -308,7 +321,7 @@ module _ {D K A T : Type 0} (says : Saying K A T) (values : Values) (text : ℕ 
 
   -- an edge is one of the operation around it, which has the operands that it hands on
   pub edge_raised : (first : ℕ) → first ≡ f.first → (ks : Vec ℕ Global) (p : OpenOperation) → f.body ≡ body.Successor ks → g.body ≡ body.Operation p
-      → OnOk r ((q : OpenOperation) × HasPut g c.here (body.Operation q) (part.Successor (length ks.items)) first × (q.kind ≡ p.kind) × (q.regions ≡ p.regions) × (q.labels.items ≡ p.labels.items ++ first ∷ []) × (q.operands.items ≡ p.operands.items ++ ks.items))
+      → OnOk r ((q : OpenOperation) × HasPut g c.here (body.Operation q) (part.Successor (length ks.items)) (first ∷ []) × (q.kind ≡ p.kind) × (q.regions ≡ p.regions) × (q.labels.items ≡ p.labels.items ++ first ∷ []) × (q.operands.items ≡ p.operands.items ++ ks.items))
       → OnOk r (HasMade says values text start counter t c (with_end b.here b.around last) next names)
   edge_raised first at_label ks p is is_operation new =
       value_ends says values text start counter s t whole c f g rest names is_f is_around kept only made b at next last r holds has out (subst (λ (x : Body D K A T). IsValue (sort_of x)) (sym is) tt)
@@ -321,7 +334,7 @@ module _ {D K A T : Type 0} (says : Saying K A T) (values : Values) (text : ℕ 
       let label_is : first ≡ o.first = at_label ∙ ending.begun.first in
       let old : IsRaised says values text v g in_operation o.before = subst (λ (x : Position). IsRaised says values text v g (begun_at x) o.before) place outer in
       let known : Raises says values text v (body.Operation p) g in_operation o.before = subst (λ (x : Body D K A T). Raises says values text v x g in_operation o.before) is_operation old.made in
-      on_ok_weaker r (λ (x : (n : OpenOperation) × HasPut g c.here (body.Operation n) (part.Successor (length ks.items)) first × (n.kind ≡ p.kind) × (n.regions ≡ p.regions) × (n.labels.items ≡ p.labels.items ++ first ∷ []) × (n.operands.items ≡ p.operands.items ++ ks.items)). record {
+      on_ok_weaker r (λ (x : (n : OpenOperation) × HasPut g c.here (body.Operation n) (part.Successor (length ks.items)) (first ∷ []) × (n.kind ≡ p.kind) × (n.regions ≡ p.regions) × (n.labels.items ≡ p.labels.items ++ first ∷ []) × (n.operands.items ≡ p.operands.items ++ ks.items)). record {
         inner = λ i. subst (λ (y : Position). IsAroundRoot (begun_at y) (names_behind [] o.before)) place i;
         numbers = ap (λ (ns : Vec ℕ Global). ns.items) x.1.numbers;
         blocks = ap blocks_of_body x.1.body ∙ (ap (λ (rs : Vec (Vec (Ptr BasicBlock) Global) Global). joined (map (λ (bs : Vec (Ptr BasicBlock) Global). bs.items) rs.items)) x.3 ∙ sym (ap blocks_of_body is_operation));

@@ -11,7 +11,7 @@ use Rattle.ir_program.specs.declared.handles.BasicBlock.{BasicBlock}
 use Rattle.ir_program.specs.declared.handles.Ptr.{Ptr}
 use Rattle.ir_grammar.specs.declared.grammar.Action.{Action}
 use Rattle.ir_grammar.specs.declared.grammar.Action.TheVariants as act
-use Rattle.ir_grammar.specs.Nesting.{in_value, in_list, in_item, move}
+use Rattle.ir_grammar.specs.Nesting.{in_value, in_list, in_item, in_choice, move}
 use Rattle.ir_forest.specs.Building.{fault_after, fault_at_end, with_end}
 use Rattle.ir_forest.specs.Meaning.{leaf_in}
 use Rattle.ir_formats.specs.Ordered.{Standing, moved_by}
@@ -28,7 +28,7 @@ use Rattle.text_frames.proofs.Moving.{type_begins, leaf_stays, result_goes, argu
 use Rattle.text_assembling.specs.declared.assembling.Assembler.{Assembler}
 use Rattle.text_assembling.specs.Assembling.{Begun, KeepsAround, NamesOne, Stage, value_body, world_of}
 use Rattle.text_assembling.specs.Steps.{HasEnded, HasStepped, IsAt, MakesBlock, ActionIsInPlace, MayGoOut, Progress, progress_after, progress_ended}
-use Rattle.text_assembling.proofs.RaisingBegins.{type_enters, attribute_enters, list_enters, item_enters, value_begins, operation_begins, region_begins, operands_begin, edge_begins, block_begins}
+use Rattle.text_assembling.proofs.RaisingBegins.{type_enters, attribute_enters, list_enters, item_enters, choice_enters, value_begins, operation_begins, region_begins, operands_begin, edge_begins, block_begins}
 use Rattle.text_assembling.proofs.Outside.{around_block}
 use Rattle.text_assembling.proofs.RaisingBlocks.{may_end}
 use Rattle.text_assembling.proofs.RaisingHeaders.{header_at, header_full, header_known, header_made, header_spelt}
@@ -84,7 +84,8 @@ module _ {D K A T : Type 0} (says : Saying K A T) (values : Values) (text : ℕ 
   ended_after g next k x (inr (inr (inr (inr (inl e))))) w = at_end g next k x act.EndOperands e (refl, ended_at g next k w.1)
   ended_after g next k x (inr (inr (inr (inr (inr (inl e)))))) w = at_end g next k x act.EndItem e (refl, ended_at g next k w.1)
   ended_after g next k x (inr (inr (inr (inr (inr (inr (inl e))))))) w = at_end g next k x act.EndList e (refl, ended_at g next k w.1)
-  ended_after g next k x (inr (inr (inr (inr (inr (inr (inr e))))))) w = at_end g next k x act.EndSuccessor e (refl, ended_at g next k w.1)
+  ended_after g next k x (inr (inr (inr (inr (inr (inr (inr (inl e)))))))) w = at_end g next k x act.EndSuccessor e (refl, ended_at g next k w.1)
+  ended_after g next k x (inr (inr (inr (inr (inr (inr (inr (inr e)))))))) w = at_end g next k x act.EndChoice e (refl, ended_at g next k w.1)
 
   pub stepped_end : (x : Action) → IsAnEnd x → HasEnded says values s a t c → HasStepped says values text s a t c x
   stepped_end x is ended g next at goes = ended_after g next (a.taken - 1) x is (ended text g next at (goes_out text a g next x is goes))
@@ -157,7 +158,7 @@ module _ {D K A T : Type 0} (says : Saying K A T) (values : Values) (text : ℕ 
   sort_here : (g : Progress K A T) → IsAt says values text s a g → sort_of a.here.body ≡ sort_at g.standing.here
   sort_here g at = (innermost says values text s.ctx.types a.here g.standing.here g.built.here (reverse a.around.items) g.built.around g.standing.around at.holds).sort
 
-  pub stepped_leaf : KeepsAround a c → c.made ≡ a.made → (sort : LeafSort) (l : LeafValue) → IsLeaf l (leaf_in sort (text (a.taken - 1))) → HasPut a.here c.here a.here.body (part.Leaf l) (a.taken - 1)
+  pub stepped_leaf : KeepsAround a c → c.made ≡ a.made → (sort : LeafSort) (l : LeafValue) → IsLeaf l (leaf_in sort (text (a.taken - 1))) → HasPut a.here c.here a.here.body (part.Leaf l) ((a.taken - 1) ∷ [])
       → HasStepped says values text s a s c (act.Leaf sort)
   stepped_leaf kept made sort l shown put g next at goes =
       let none_yet = unrooted g.standing.here (act.Leaf sort) g.standing.around next a.made.root goes.leads at.made.unrooted in
@@ -272,6 +273,18 @@ module _ {D K A T : Type 0} (says : Saying K A T) (values : Values) (text : ℕ 
               (moving.item_begins g.standing.around next g.standing.here goes.leads) begun.here begun.around refl tt;
           made = value_begins says values text g.start g.first s a c g.built g.standing next g.names at.made made none_yet act.BeginItem body.Item in_item
               (item_enters g.standing.around next g.standing.here goes.leads) begun refl refl refl refl tt;
+        },
+      )
+
+  pub stepped_choice : c.made ≡ a.made → (n : ℕ) → Begun a c (body.Choice n) → HasStepped says values text s a s c (act.BeginChoice n)
+  stepped_choice made n begun g next at goes =
+      let none_yet = unrooted g.standing.here (act.BeginChoice n) g.standing.around next a.made.root goes.leads at.made.unrooted in (
+        refl,
+        record {
+          holds = begins says values text s.ctx.types a c g.built g.standing next (a.taken - 1) at.holds (act.BeginChoice n) (body.Choice n)
+              (moving.choice_begins g.standing.around next g.standing.here n goes.leads) begun.here begun.around refl tt;
+          made = value_begins says values text g.start g.first s a c g.built g.standing next g.names at.made made none_yet (act.BeginChoice n) (body.Choice n) in_choice
+              (choice_enters g.standing.around next g.standing.here n goes.leads) begun refl refl refl refl tt;
         },
       )
 

@@ -20,13 +20,14 @@ use Rattle.text_frames.specs.declared.opened.Open as opened
 use Rattle.text_frames.specs.declared.opened.OpenBlock.{OpenBlock}
 use Rattle.ir_forest.specs.Forest.{ActionSpan}
 use Rattle.ir_forest.specs.Meaning.{with_piece, leaf_in, tokens_in}
+use Rattle.ir_forest.specs.ValueFaults.{tokens_at}
 use Rattle.ir_forest.specs.Building as building
 use Rattle.ir_forest.specs.Building.{Built, after, behind, with_begin, with_leaf, with_end, with_name, names_behind, fault_after, fault_at_end}
 use Rattle.ir_grammar.specs.Nesting.{Position, move}
 use Rattle.text_frames.specs.building.Kept.{KeepsKeys}
 use Rattle.text_frames.specs.Opened.{HasPut, HasOneMoreName, HasBody, IsFreshFrame}
 use Rattle.ir_formats.specs.Ordered.{Standing, moved_by, moved_out}
-use Rattle.text_frames.specs.Frames.{FrameSort, some_operands, an_edge, a_region, a_block, a_list, an_item, sort_at, sort_of, EndsAt, Begins, IsEmpty, NamesResults, Contains, IsFrame, HasBegun, Stands, BeganSo}
+use Rattle.text_frames.specs.Frames.{FrameSort, some_operands, an_edge, a_region, a_block, a_list, an_item, a_choice, sort_at, sort_of, EndsAt, Begins, IsEmpty, NamesResults, Contains, IsFrame, HasBegun, Stands, BeganSo}
 use Rattle.text_assembling.specs.Assembling.{Holds, KeepsAround}
 use Rattle.ir_forest.proofs.PiecesBehind.{tokens_behind}
 use Rattle.text_frames.proofs.Framing.{stands_later, stands_at, stands_with, innermost, frame_put, fresh_frame}
@@ -35,7 +36,7 @@ use Rattle.ir_print.specs.declared.format.LeafValue.{LeafValue}
 use Rattle.ir_print.specs.declared.format.LeafSort.{LeafSort}
 use Rattle.ir_print.specs.declared.format.ValueSort.{ValueSort}
 use Rattle.ir_print.specs.declared.format.ValueSort.TheVariants as sorts
-use Rattle.text_frames.proofs.Moving.{GoesIn, GoesTo, Stays, operation_out, region_out, block_out, type_out, attribute_out, operands_out, edge_out, item_out, list_out}
+use Rattle.text_frames.proofs.Moving.{GoesIn, GoesTo, Stays, operation_out, region_out, block_out, type_out, attribute_out, operands_out, edge_out, item_out, list_out, choice_out}
 
 -- what an action at a token leads to: no fault, and what is open holds what is built
 abbrev pub Goes : {D K A T : Type 0} → Saying K A T → Values → (ℕ → List ℕ) → List T → Assembler D K A T → Built → Action → ℕ → Standing → Type 0
@@ -80,15 +81,15 @@ module _ {D K A T : Type 0} (says : Saying K A T) (values : Values) (text : ℕ 
       subst (λ (n : Standing). Stands says values text t c.here n.here more (reverse c.around.items) b.around n.around) goes.leads
       (subst (λ (v : Vec (opened.Open D K A T) Global). Stands says values text t c.here goes.to more (reverse v.items) b.around s.around) (sym kept.around) all)
 
-  put : (x : Action) (p : Part D K A T) (t : ValueTree) → Stays s.here s.around next → KeepsAround a c → HasPut a.here c.here a.here.body p k
+  put : (x : Action) (p : Part D K A T) (t : ValueTree) → Stays s.here s.around next → KeepsAround a c → HasPut a.here c.here a.here.body p (k ∷ []) → k ∷ [] ≡ tokens_at x k []
       → with_piece values x (text k) 0 no_tree no_tree ≡ a_tree t no_tree → ShowsPart says types p t → Holds says values text types c (with_leaf b x k) next
-  put x p t goes kept new piece shown =
+  put x p t goes kept new one piece shown =
       alone types (λ i key h. h) x (record { to = s.here; leads = goes.leads; stays = refl }) kept (began_same a.here c.here new.body new.first)
-      (frame_put says values text types a.here c.here a.here.body s.here b.here (lone x k) no_tree p t goes.takes frame refl new piece shown)
+      (frame_put says values text types a.here c.here a.here.body s.here b.here (lone x k) no_tree p t (k ∷ []) goes.takes frame refl new one piece shown)
 
-  pub went_leaf : (sort : LeafSort) (l : LeafValue) → Stays s.here s.around next → KeepsAround a c → IsLeaf l (leaf_in sort (text k)) → HasPut a.here c.here a.here.body (part.Leaf l) k
+  pub went_leaf : (sort : LeafSort) (l : LeafValue) → Stays s.here s.around next → KeepsAround a c → IsLeaf l (leaf_in sort (text k)) → HasPut a.here c.here a.here.body (part.Leaf l) (k ∷ [])
       → Goes says values text types c b (act.Leaf sort) k next
-  went_leaf sort l goes kept shown new = (refl, put (act.Leaf sort) (part.Leaf l) (node (leaf (leaf_in sort (text k))) no_tree) goes kept new refl (l, refl, shown))
+  went_leaf sort l goes kept shown new = (refl, put (act.Leaf sort) (part.Leaf l) (node (leaf (leaf_in sort (text k))) no_tree) goes kept new refl refl (l, refl, shown))
 
   pub went_result : GoesTo s.here s.around next × Hollow (sort_at s.here) → KeepsAround a c → HasOneMoreName a.here c.here k → Goes says values text types c b act.Result k next
   went_result goes kept new =
@@ -172,6 +173,7 @@ Silent some_operands = Unit {0}
 Silent an_edge = Unit {0}
 Silent a_list = Unit {0}
 Silent an_item = Unit {0}
+Silent a_choice = Unit {0}
 Silent _ = ⊥
 
 module _ {D K A T : Type 0} (values : Values) (text : ℕ → List ℕ) (o : building.Open) (ts : Trees ActionSpan) (k : ℕ) where
@@ -181,6 +183,7 @@ module _ {D K A T : Type 0} (values : Values) (text : ℕ → List ℕ) (o : bui
   silent_end (body.Attribute n) h e = absurd h
   silent_end (body.List ms) h e = no_fault values text o ts k act.BeginList e refl refl
   silent_end body.Item h e = no_fault values text o ts k act.BeginItem e refl refl
+  silent_end (body.Choice n) h e = no_fault values text o ts k (act.BeginChoice n) e refl refl
   silent_end (body.Operation p) h e = absurd h
   silent_end (body.Operands ks) h e = no_fault values text o ts k act.BeginOperands e refl refl
   silent_end (body.Successor ks) h e = no_fault values text o ts k act.BeginSuccessor e refl refl
@@ -218,7 +221,7 @@ any_ok (Err e) h = tt
 
 -- the action ends something
 abbrev pub IsAnEnd : Action → Type 0
-IsAnEnd x = (x ≡ act.EndOperation) ⊎ ((x ≡ act.EndRegion) ⊎ ((x ≡ act.EndBlock) ⊎ (((sort : ValueSort) × (x ≡ act.End sort)) ⊎ ((x ≡ act.EndOperands) ⊎ ((x ≡ act.EndItem) ⊎ ((x ≡ act.EndList) ⊎ (x ≡ act.EndSuccessor)))))))
+IsAnEnd x = (x ≡ act.EndOperation) ⊎ ((x ≡ act.EndRegion) ⊎ ((x ≡ act.EndBlock) ⊎ (((sort : ValueSort) × (x ≡ act.End sort)) ⊎ ((x ≡ act.EndOperands) ⊎ ((x ≡ act.EndItem) ⊎ ((x ≡ act.EndList) ⊎ ((x ≡ act.EndSuccessor) ⊎ (x ≡ act.EndChoice))))))))
 
 module _ {D K A T : Type 0} (says : Saying K A T) (values : Values) (text : ℕ → List ℕ) (types : List T) (c : Assembler D K A T) (b : Built) (s next : Standing) (k : ℕ) (r : Result (Unit {0}) AssemblyFault) where
   pub ends_went : (x : Action) → IsAnEnd x → moved_by (move s.here x) s.around ≡ Some next
@@ -232,7 +235,8 @@ module _ {D K A T : Type 0} (says : Saying K A T) (values : Values) (text : ℕ 
   ends_went x (inr (inr (inr (inr (inl e))))) m h = went says values text types c b k next r x act.EndOperands e (on_ok_weaker r (λ (w : (fault_at_end values text b.here b.around k ≡ None) × Holds says values text types c (with_end b.here b.around k) next). (refl, w.1)) (h (operands_out s.around next s.here (at_action s next x act.EndOperands e m)).0))
   ends_went x (inr (inr (inr (inr (inr (inl e)))))) m h = went says values text types c b k next r x act.EndItem e (on_ok_weaker r (λ (w : (fault_at_end values text b.here b.around k ≡ None) × Holds says values text types c (with_end b.here b.around k) next). (refl, w.1)) (h (item_out s.around next s.here (at_action s next x act.EndItem e m)).0))
   ends_went x (inr (inr (inr (inr (inr (inr (inl e))))))) m h = went says values text types c b k next r x act.EndList e (on_ok_weaker r (λ (w : (fault_at_end values text b.here b.around k ≡ None) × Holds says values text types c (with_end b.here b.around k) next). (refl, w.1)) (h (list_out s.around next s.here (at_action s next x act.EndList e m)).0))
-  ends_went x (inr (inr (inr (inr (inr (inr (inr e))))))) m h = went says values text types c b k next r x act.EndSuccessor e (on_ok_weaker r (λ (w : (fault_at_end values text b.here b.around k ≡ None) × Holds says values text types c (with_end b.here b.around k) next). (refl, w.1)) (h (edge_out s.around next s.here (at_action s next x act.EndSuccessor e m)).0))
+  ends_went x (inr (inr (inr (inr (inr (inr (inr (inl e)))))))) m h = went says values text types c b k next r x act.EndSuccessor e (on_ok_weaker r (λ (w : (fault_at_end values text b.here b.around k ≡ None) × Holds says values text types c (with_end b.here b.around k) next). (refl, w.1)) (h (edge_out s.around next s.here (at_action s next x act.EndSuccessor e m)).0))
+  ends_went x (inr (inr (inr (inr (inr (inr (inr (inr e)))))))) m h = went says values text types c b k next r x act.EndChoice e (on_ok_weaker r (λ (w : (fault_at_end values text b.here b.around k ≡ None) × Holds says values text types c (with_end b.here b.around k) next). (refl, w.1)) (h (choice_out s.around next s.here (at_action s next x act.EndChoice e m)).0))
 
 module _ {D K A T : Type 0} (says : Saying K A T) (values : Values) (text : ℕ → List ℕ) (types : List T) (a : Assembler D K A T) (b : Built) (s next : Standing) (k : ℕ)
     (holds : Holds says values text types a b s) (f : Fault) where
@@ -252,4 +256,5 @@ module _ {D K A T : Type 0} (says : Saying K A T) (values : Values) (text : ℕ 
   end_refused x (inr (inr (inr (inr (inl e))))) m h = faulty x act.EndOperands e (let out = operands_out s.around next s.here (at_action s next x act.EndOperands e m) in none_is_refused (subst Silent (sym out.1) tt) (h out.0))
   end_refused x (inr (inr (inr (inr (inr (inl e)))))) m h = faulty x act.EndItem e (let out = item_out s.around next s.here (at_action s next x act.EndItem e m) in none_is_refused (subst Silent (sym out.1) tt) (h out.0))
   end_refused x (inr (inr (inr (inr (inr (inr (inl e))))))) m h = faulty x act.EndList e (let out = list_out s.around next s.here (at_action s next x act.EndList e m) in none_is_refused (subst Silent (sym out.1) tt) (h out.0))
-  end_refused x (inr (inr (inr (inr (inr (inr (inr e))))))) m h = faulty x act.EndSuccessor e (let out = edge_out s.around next s.here (at_action s next x act.EndSuccessor e m) in none_is_refused (subst Silent (sym out.1) tt) (h out.0))
+  end_refused x (inr (inr (inr (inr (inr (inr (inr (inl e)))))))) m h = faulty x act.EndSuccessor e (let out = edge_out s.around next s.here (at_action s next x act.EndSuccessor e m) in none_is_refused (subst Silent (sym out.1) tt) (h out.0))
+  end_refused x (inr (inr (inr (inr (inr (inr (inr (inr e)))))))) m h = faulty x act.EndChoice e (let out = choice_out s.around next s.here (at_action s next x act.EndChoice e m) in none_is_refused (subst Silent (sym out.1) tt) (h out.0))

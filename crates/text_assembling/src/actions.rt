@@ -53,6 +53,7 @@ impl<D: TextDialect> Assembler<D> {
             Action::BeginSuccessor => self.begin_successor(spares),
             Action::BeginList => self.begin_list(spares),
             Action::BeginItem => self.begin_item(spares),
+            Action::BeginChoice(number) => self.begin_choice(spares, number),
             Action::EndOperation
             | Action::EndRegion
             | Action::EndBlock
@@ -60,7 +61,8 @@ impl<D: TextDialect> Assembler<D> {
             | Action::EndOperands
             | Action::EndItem
             | Action::EndList
-            | Action::EndSuccessor => self.end(ctx, spares),
+            | Action::EndSuccessor
+            | Action::EndChoice => self.end(ctx, spares),
         }
     }
 }

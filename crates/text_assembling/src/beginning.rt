@@ -113,6 +113,20 @@ impl<D: TextDialect> Assembler<D> {
         self.begin(spares, Body::Item)
     }
 
+    /// What the format with this number says, of several, begins.
+    pub fn begin_choice(
+        &mut self,
+        spares: &mut Vec<Box<Content<D>>>,
+        number: usize,
+    ) -> Result<(), AssemblyFault>
+        ensures begun { OnOk result (Begun self.old self.new (body.Choice number)) }
+        ensures made { self.new.made ≡ self.old.made }
+        ensures taken { self.new.taken ≡ self.old.taken }
+        ensures memory { IfErr result (λ e. e ≡ Memory) }
+    {
+        self.begin(spares, Body::Choice(number))
+    }
+
     /// A list begins, with no member yet.
     pub fn begin_list(&mut self, spares: &mut Vec<Box<Content<D>>>) -> Result<(), AssemblyFault>
         ensures begun { OnOk result ((ms : Vec (Vec (Part D D.OpKind D.Attr D.TypeKey) Global) Global)
@@ -236,7 +250,7 @@ impl<D: TextDialect> Assembler<D> {
     pub fn leaf(&mut self, sort: LeafSort, text: Text) -> Result<(), AssemblyFault>
         ensures here { IsSpelled (leaf_in sort (codes_of text.entry)) → OnOk result ((l : LeafValue)
             × IsLeaf l (leaf_in sort (codes_of text.entry))
-            × HasPut self.old.here self.new.here self.old.here.body (part.Leaf l) (self.old.taken - 1)) }
+            × HasPut self.old.here self.new.here self.old.here.body (part.Leaf l) ((self.old.taken - 1) ∷ [])) }
         ensures made { self.new.made ≡ self.old.made }
         ensures around { KeepsAround self.old self.new }
         ensures memory { IfErr result (λ e. e ≡ Memory) }

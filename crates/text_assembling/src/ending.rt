@@ -76,13 +76,23 @@ impl<D: TextDialect> Assembler<D> {
                 made
             }
             Body::List(members) => {
+                let made = self.here.put_all(Part::List(members), &content.tokens);
                 keep(spares, content);
-                self.here.put(Part::List(members), first)
+                made
             }
             Body::Item => {
                 let parts = std::mem::replace(&mut content.parts, Vec::new(self.alloc));
+                let made = self.end_item(parts, &content.tokens);
                 keep(spares, content);
-                self.end_item(parts)
+                made
+            }
+            Body::Choice(number) => {
+                let parts = std::mem::replace(&mut content.parts, Vec::new(self.alloc));
+                let made = self
+                    .here
+                    .put_all(Part::Choice(number, parts), &content.tokens);
+                keep(spares, content);
+                made
             }
             Body::Operation(open) => {
                 let made = self.end_operation(ctx, first, open, &content);

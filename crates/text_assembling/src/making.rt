@@ -1,11 +1,11 @@
 //! What makes blocks and operations.
-ghost use Rattle.std.specs.Prelude.{◌≡◌, ◌<◌, ◌≤◌, ◌+◌, ◌-◌, ◌^◌, ◌++◌, [], ℕ, List, length, Some, None, IsSome, Err, IfErr, OnErr, OnOk, true, vec_len, vec_capacity};
+ghost use Rattle.std.specs.Prelude.{◌≡◌, ◌<◌, ◌≤◌, ◌+◌, ◌-◌, ◌^◌, ◌++◌, [], ℕ, List, length, Some, None, IsSome, option_map, Err, IfErr, OnErr, OnOk, true, vec_len, vec_capacity};
 ghost use Rattle.text_frames.specs.Worlds.{joined};
-ghost use Rattle.std.specs.Option.{option_map_or};
 ghost use Rattle.ir_context.specs.Known.{AreKnownIn};
-ghost use Rattle.ir_forest.specs.Building.{names_fault, number_fault};
+ghost use Rattle.ir_forest.specs.Building.{names_fault, or_else, refused_fault};
 ghost use Rattle.ir_forest.specs.Forest.{ActionSpan};
-ghost use Rattle.ir_forest.specs.Meaning.{tokens_in};
+ghost use Rattle.ir_forest.specs.ValueFaults.{part_tokens};
+ghost use Rattle.ir_grammar.specs.declared.grammar.Action.TheVariants as act;
 ghost use Rattle.ir_tokens.specs.Tokens.{text_between};
 ghost use Rattle.ir_names.specs.Text.{is_identifier};
 ghost use Rattle.ir_names.specs.Tree.{Trees};
@@ -38,7 +38,7 @@ use ir_tokens::faults::{Fault, FaultKind};
 use ir_types::DialectTables;
 use text_dialect::{OperationDraft, TextDialect};
 use text_frames::building::{append_operation, know_seen, make_operation, open_block};
-use text_frames::making::{draft_of, label_of, types_of};
+use text_frames::making::{draft_of, label_of, results_of, types_of};
 use text_frames::opened::{AssemblyFault, Body, Content, OpenBlock, OpenOperation};
 use text_frames::source::Source;
 
@@ -160,10 +160,10 @@ impl<D: TextDialect> Assembler<D> {
             (length self.old.here.names.items)) }
         ensures refused { (ps : Pieces) (ts : Trees ActionSpan)
             → ShowsParts D.says ctx.old.types.keys content.now.parts.items ps
-            → content.now.tokens.items ≡ tokens_in ts → (f : Fault) → result ≡ Err (Text f)
-            → option_map_or (λ i. number_fault ts (self.old.taken - 1) i) (D.values.refused_operation ended.kind ps)
-            (names_fault self.old.here.names.items first (length (D.values.result_types ended.kind ps))
-            (self.old.taken - 1)) ≡ Some f }
+            → content.now.tokens.items ≡ part_tokens ts → (f : Fault) → result ≡ Err (Text f)
+            → or_else (names_fault self.old.here.names.items first (length (D.values.result_types ended.kind ps))
+            (self.old.taken - 1)) (option_map (refused_fault (act.Operation ended.kind) ts (self.old.taken - 1))
+            (D.values.refused_operation ended.kind ps)) ≡ Some f }
         ensures full { result ≡ Err CounterFull
             → 2 ^ 64 ≤ ctx.old.program.counter + length self.old.here.names.items }
         ensures undone { OnErr result (IsUndone (seen ctx.old) (seen ctx.new) self.old self.new) }
@@ -172,15 +172,16 @@ impl<D: TextDialect> Assembler<D> {
         ensures erased { KeepsErased ctx.old.program ctx.new.program }
         ensures payloads { KeepsPayloads ctx.old.program ctx.new.program }
     {
+        let results = results_of(ctx, ended.kind, &content.parts);
+        self.compare_names(first, results)?;
         let (kind, draft) = match draft_of(self.alloc, ctx, ended.kind, &content.parts) {
             Ok(draft) => draft,
-            Err(fault) => return Err(self.refused(content, fault)),
+            Err(fault) => return Err(self.refused(FaultKind::OtherConstant, content, fault)),
         };
         let OperationDraft {
             result_types,
             attributes,
         } = draft;
-        self.compare_names(first, result_types.len())?;
         self.made
             .pending
             .reserve(ended.operands.len(), ended.labels.len())?;

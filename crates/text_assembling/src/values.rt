@@ -1,9 +1,10 @@
 //! What ends in a text and makes no block and no operation.
 ghost use Rattle.std.specs.Prelude.{◌≡◌, ◌-◌, ◌∷◌, ◌++◌, [], ℕ, Vec, length, Some, None, Err, OnOk, IfErr, MatchOption};
 ghost use Rattle.ir_base.specs.declared.types.TypeHandle.{TypeHandle};
-ghost use Rattle.ir_forest.specs.Building.{number_fault};
+ghost use Rattle.ir_forest.specs.Building.{refused_fault};
 ghost use Rattle.ir_forest.specs.Forest.{ActionSpan};
-ghost use Rattle.ir_forest.specs.Meaning.{tokens_in};
+ghost use Rattle.ir_forest.specs.ValueFaults.{part_tokens, piece_token};
+ghost use Rattle.ir_grammar.specs.declared.grammar.Action.TheVariants as act;
 ghost use Rattle.ir_names.specs.Tree.{Trees, node};
 ghost use Rattle.ir_print.specs.Pieces.{Pieces, value_of_kind};
 ghost use Rattle.ir_print.specs.declared.format.ValueSort.TheVariants as sorts;
@@ -12,7 +13,7 @@ ghost use Rattle.ir_program.specs.declared.handles.BasicBlock.{BasicBlock};
 ghost use Rattle.ir_program.specs.declared.handles.Ptr.{Ptr};
 ghost use Rattle.ir_tokens.specs.declared.faults.Fault.{Fault};
 ghost use Rattle.ir_types.specs.Interned.{KeepsTypes};
-ghost use Rattle.text_frames.specs.Opened.{HasPut};
+ghost use Rattle.text_frames.specs.Opened.{HasMember, HasPut};
 ghost use Rattle.text_frames.specs.declared.opened.AssemblyFault.TheVariants.{Memory, CounterFull, Text};
 ghost use Rattle.text_frames.specs.declared.opened.OpenBlock.{OpenBlock};
 ghost use Rattle.text_frames.specs.declared.opened.OpenOperation.{OpenOperation};
@@ -34,17 +35,20 @@ impl<D: TextDialect> Assembler<D> {
     ghost use Rattle.text_frames.specs.declared.opened.Body.TheVariants as body;
     ghost use Rattle.std.specs.Global.{Global};
 
-    /// The fault that a value with this content isn't made.
-    pub fn refused(&self, content: &Content<D>, fault: MakeFault) -> AssemblyFault
-        ensures number { (ts : Trees ActionSpan) (i : ℕ) → content.now.tokens.items ≡ tokens_in ts
-            → fault ≡ make.Refused i
-            → (f : Fault) × (result ≡ Text f) × (number_fault ts (self.now.taken - 1) i ≡ Some f) }
+    /// What is answered where nothing is made of this content: a fault of this kind, at the part that is refused.
+    pub fn refused(&self, kind: FaultKind, content: &Content<D>, fault: MakeFault) -> AssemblyFault
+        ensures number { (ts : Trees ActionSpan) (i : ℕ) → content.now.tokens.items ≡ part_tokens ts
+            → fault ≡ make.Refused i → result ≡ Text (record {
+              kind = kind;
+              met = self.now.taken - 1;
+              place = piece_token ts i (self.now.taken - 1);
+            }) }
         ensures memory { fault ≡ make.Memory → result ≡ Memory }
         ensures not_full { result ≡ CounterFull → ⊥ }
     {
         match fault {
             MakeFault::Refused(number) => AssemblyFault::Text(Fault {
-                kind: FaultKind::Number,
+                kind,
                 met: self.last(),
                 place: content.token(number, self.last()),
             }),
@@ -63,12 +67,12 @@ impl<D: TextDialect> Assembler<D> {
         ensures made { (ps : Pieces) → ShowsParts D.says ctx.old.types.keys content.now.parts.items ps
             → OnOk result ((D.values.refused_type kind ps ≡ None) × (ty : TypeHandle)
             × ShowsType D.says ctx.new.types.keys ty (node (value_of_kind sorts.«Type» kind) ps)
-            × HasPut self.old.here self.new.here self.old.here.body (part.«Type» ty) first) }
+            × HasPut self.old.here self.new.here self.old.here.body (part.«Type» ty) (first ∷ [])) }
         ensures refused { (ps : Pieces) (ts : Trees ActionSpan)
             → ShowsParts D.says ctx.old.types.keys content.now.parts.items ps
-            → content.now.tokens.items ≡ tokens_in ts → (f : Fault) → result ≡ Err (Text f)
+            → content.now.tokens.items ≡ part_tokens ts → (f : Fault) → result ≡ Err (Text f)
             → (i : ℕ) × (D.values.refused_type kind ps ≡ Some i)
-            × (number_fault ts (self.old.taken - 1) i ≡ Some f) }
+            × (f ≡ refused_fault (act.Begin sorts.«Type» kind) ts (self.old.taken - 1) i) }
         ensures not_full { result ≡ Err CounterFull → ⊥ }
         ensures assembly { self.new.made ≡ self.old.made }
         ensures program { ctx.new.program ≡ ctx.old.program }
@@ -77,7 +81,7 @@ impl<D: TextDialect> Assembler<D> {
     {
         match make_type(self.alloc, ctx, kind, &content.parts) {
             Ok(ty) => self.here.put(Part::Type(ty), first),
-            Err(fault) => Err(self.refused(content, fault)),
+            Err(fault) => Err(self.refused(FaultKind::Number, content, fault)),
         }
     }
 
@@ -92,12 +96,12 @@ impl<D: TextDialect> Assembler<D> {
         ensures made { (ps : Pieces) → ShowsParts D.says ctx.old.types.keys content.now.parts.items ps
             → OnOk result ((D.values.refused_attribute kind ps ≡ None) × (attr : D.Attr)
             × ShowsAttribute D.says ctx.new.types.keys attr (node (value_of_kind sorts.Attribute kind) (D.values.canonical kind ps))
-            × HasPut self.old.here self.new.here self.old.here.body (part.Attribute attr) first) }
+            × HasPut self.old.here self.new.here self.old.here.body (part.Attribute attr) (first ∷ [])) }
         ensures refused { (ps : Pieces) (ts : Trees ActionSpan)
             → ShowsParts D.says ctx.old.types.keys content.now.parts.items ps
-            → content.now.tokens.items ≡ tokens_in ts → (f : Fault) → result ≡ Err (Text f)
+            → content.now.tokens.items ≡ part_tokens ts → (f : Fault) → result ≡ Err (Text f)
             → (i : ℕ) × (D.values.refused_attribute kind ps ≡ Some i)
-            × (number_fault ts (self.old.taken - 1) i ≡ Some f) }
+            × (f ≡ refused_fault (act.Begin sorts.Attribute kind) ts (self.old.taken - 1) i) }
         ensures not_full { result ≡ Err CounterFull → ⊥ }
         ensures assembly { self.new.made ≡ self.old.made }
         ensures program { ctx.new.program ≡ ctx.old.program }
@@ -106,20 +110,21 @@ impl<D: TextDialect> Assembler<D> {
     {
         match make_attribute(self.alloc, ctx, kind, &content.parts) {
             Ok(attr) => self.here.put(Part::Attribute(attr), first),
-            Err(fault) => Err(self.refused(content, fault)),
+            Err(fault) => Err(self.refused(FaultKind::Number, content, fault)),
         }
     }
 
-    /// A member ends, in its list.
-    pub fn end_item(&mut self, parts: Vec<Part<D>>) -> Result<(), AssemblyFault>
+    /// A member of these parts ends, in its list. These tokens begin parts in it.
+    pub fn end_item(&mut self, parts: Vec<Part<D>>, tokens: &[usize]) -> Result<(), AssemblyFault>
         ensures here { (ms : Vec (Vec (Part D D.OpKind D.Attr D.TypeKey) Global) Global)
             → self.old.here.body ≡ body.List ms
             → OnOk result ((ns : Vec (Vec (Part D D.OpKind D.Attr D.TypeKey) Global) Global)
-            × (self.new.here ≡ record self.old.here { body = body.List ns }) × (ns.items ≡ ms.items ++ parts ∷ [])) }
+            × HasMember self.old.here self.new.here (body.List ns) tokens.now × (ns.items ≡ ms.items ++ parts ∷ [])) }
         ensures assembly { self.new.made ≡ self.old.made }
         ensures around { KeepsAround self.old self.new }
         ensures memory { IfErr result (λ e. e ≡ Memory) }
     {
+        self.here.content.tokens.extend_from_slice(tokens)?;
         if let Body::List(members) = &mut self.here.body {
             members.push(parts)?;
         }
@@ -135,7 +140,7 @@ impl<D: TextDialect> Assembler<D> {
     ) -> Result<(), AssemblyFault>
         ensures here { (o : OpenOperation) → self.old.here.body ≡ body.Operation o
             → OnOk result ((p : OpenOperation)
-            × HasPut self.old.here self.new.here (body.Operation p) (part.Operands (length tokens.items)) first
+            × HasPut self.old.here self.new.here (body.Operation p) (part.Operands (length tokens.items)) (first ∷ [])
             × (p.kind ≡ o.kind) × (p.regions ≡ o.regions) × (p.labels ≡ o.labels)
             × (p.operands.items ≡ o.operands.items ++ tokens.items)) }
         ensures assembly { self.new.made ≡ self.old.made }
@@ -160,7 +165,7 @@ impl<D: TextDialect> Assembler<D> {
     ) -> Result<(), AssemblyFault>
         ensures here { (o : OpenOperation) → self.old.here.body ≡ body.Operation o
             → OnOk result ((p : OpenOperation)
-            × HasPut self.old.here self.new.here (body.Operation p) (part.Successor (length tokens.items)) first
+            × HasPut self.old.here self.new.here (body.Operation p) (part.Successor (length tokens.items)) (first ∷ [])
             × (p.kind ≡ o.kind) × (p.regions ≡ o.regions) × (p.labels.items ≡ o.labels.items ++ first ∷ [])
             × (p.operands.items ≡ o.operands.items ++ tokens.items)) }
         ensures assembly { self.new.made ≡ self.old.made }
@@ -183,7 +188,7 @@ impl<D: TextDialect> Assembler<D> {
         blocks: Vec<Ptr<BasicBlock>>,
     ) -> Result<(), AssemblyFault>
         ensures here { (o : OpenOperation) → self.old.here.body ≡ body.Operation o
-            → OnOk result ((p : OpenOperation) × HasPut self.old.here self.new.here (body.Operation p) part.Region first
+            → OnOk result ((p : OpenOperation) × HasPut self.old.here self.new.here (body.Operation p) part.Region (first ∷ [])
             × (p.kind ≡ o.kind) × (p.operands ≡ o.operands) × (p.labels ≡ o.labels)
             × (p.regions.items ≡ o.regions.items ++ blocks ∷ [])) }
         ensures assembly { self.new.made ≡ self.old.made }

@@ -1,5 +1,5 @@
 //! What a dialect says of its texts.
-ghost use Rattle.std.specs.Prelude.{◌≡◌, ℕ, List, Option, Some, None, Err, true, length, slice_get, option_map, IfOk, IsSome};
+ghost use Rattle.std.specs.Prelude.{◌≡◌, ℕ, List, [], Option, Some, None, Err, true, length, slice_get, option_map, IfOk, IsSome};
 ghost use Rattle.ir_base.specs.declared.types.TypeHandle.{TypeHandle};
 ghost use Rattle.ir_names.specs.Tree.{Trees, node};
 ghost use Rattle.ir_print.specs.Formats.{Formats, Kind, is_small, steps_of};
@@ -25,7 +25,7 @@ use std::alloc::{AllocError, AllocFailed, Global};
 /// Why a value isn't made of the parts that were read.
 #[derive(Clone, Copy, Debug, PartialEq, Eq)]
 pub enum MakeFault {
-    /// The part with this number, from 0 on in the order of the text, is refused.
+    /// The part with this number, from 0 on in the order of the text, is refused. Of lists and choices what is in them counts.
     Refused(usize),
     Memory,
 }
@@ -141,6 +141,11 @@ pub trait TextDialect: DialectTables {
         ensures refused { (i : ℕ) → result ≡ Err (Refused i) →
             RefusesAttribute says values attr_kinds kind ctx.old.types.keys parts.now i };
 
+    /// How many results an operation of these parts has, whether or not it can be made of them.
+    fn num_results(ctx: &Context<Self>, kind: Self::OpKind, parts: &[Part<Self>]) -> usize
+        ensures { (n : ℕ) → (ps : Pieces) → kind_at n ≡ Some kind →
+            ShowsParts says ctx.now.types.keys parts.now ps → result ≡ length (values.result_types n ps) };
+
     /// What an operation of these parts is made with, or the first part that is refused. Types may be interned.
     fn make_operation(
         alloc: Global,
@@ -183,7 +188,7 @@ pub trait TextDialect: DialectTables {
 
     ghost few: { is_small formats ≡ true };
 
-    /// Lists stand in one another at most 64 deep in formats.
+    /// Lists and choices stand in one another at most 64 deep in formats.
     ghost nested: { is_nested_little formats ≡ true };
 
     /// Equal keys say the same.
@@ -223,6 +228,7 @@ pub trait TextDialect: DialectTables {
     ghost unknown_attribute: { (n : ℕ) (ps : Pieces) → slice_get attr_kinds n ≡ None →
         values.refused_attribute n ps ≡ Some 0 };
 
-    /// Where no kind of operations has a number, the first piece is refused.
-    ghost unknown_operation: { (n : ℕ) (ps : Pieces) → kind_at n ≡ None → values.refused_operation n ps ≡ Some 0 };
+    /// Where no kind of operations has a number, the first piece is refused, and there are no results.
+    ghost unknown_operation: { (n : ℕ) (ps : Pieces) → kind_at n ≡ None →
+        (values.refused_operation n ps ≡ Some 0) × (values.result_types n ps ≡ []) };
 }

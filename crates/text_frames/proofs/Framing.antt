@@ -15,9 +15,10 @@ use Rattle.ir_forest.specs.Building.{behind, names_behind, with_name}
 use Rattle.ir_grammar.specs.Nesting.{Position}
 use Rattle.text_frames.specs.Opened.{HasPut, IsFreshFrame}
 use Rattle.text_frames.specs.building.Kept.{KeepsKeys}
-use Rattle.text_frames.specs.Frames.{FrameSort, a_text, an_operation, some_operands, an_edge, a_region, a_block, a_type, an_attribute, a_list, an_item, sort_at, sort_of, TakesParts, EndsAt, IsEmpty, NamesResults, SaysParts, Contains, IsFrame, HasBegun, Stands, BeganSo}
+use Rattle.text_frames.specs.Frames.{FrameSort, a_text, an_operation, some_operands, an_edge, a_region, a_block, a_type, an_attribute, a_list, an_item, a_choice, sort_at, sort_of, TakesParts, EndsAt, IsEmpty, NamesResults, SaysParts, Contains, IsFrame, HasBegun, Stands, BeganSo}
 use Rattle.text_frames.proofs.BuildingLemmas.ShownLater.{parts_later, members_later, parts_put}
-use Rattle.ir_forest.proofs.PiecesBehind.{pieces_behind, tokens_behind}
+use Rattle.ir_forest.specs.ValueFaults.{tokens_at, part_tokens}
+use Rattle.ir_forest.proofs.PiecesBehind.{pieces_behind, parts_behind}
 
 -- ---- where types are kept
 
@@ -29,8 +30,9 @@ module _ {D K A T : Type 0} (says : Saying K A T) (values : Values) (text : ℕ 
   contains_later body.Text c ts h = h
   contains_later (body.«Type» n) c ts h = parts_kept c ts h
   contains_later (body.Attribute n) c ts h = parts_kept c ts h
-  contains_later (body.List ms) c ts h = members_later says s t keeps ms.items (pieces_in values text ts) h
+  contains_later (body.List ms) c ts h = record { members = members_later says s t keeps ms.items (pieces_in values text ts) h.members; tokens = h.tokens }
   contains_later body.Item c ts h = parts_kept c ts h
+  contains_later (body.Choice n) c ts h = parts_kept c ts h
   contains_later (body.Operation o) c ts h = parts_kept c ts h
   contains_later (body.Operands ks) c ts h = h
   contains_later (body.Successor ks) c ts h = h
@@ -61,6 +63,7 @@ unnamed an_operation names ts takes = tt
 unnamed a_type names ts takes = tt
 unnamed an_attribute names ts takes = tt
 unnamed an_item names ts takes = tt
+unnamed a_choice names ts takes = tt
 unnamed a_text names ts takes = absurd takes
 unnamed some_operands names ts takes = absurd takes
 unnamed an_edge names ts takes = absurd takes
@@ -73,6 +76,7 @@ no_names an_operation names e = tt
 no_names a_type names e = tt
 no_names an_attribute names e = tt
 no_names an_item names e = tt
+no_names a_choice names e = tt
 no_names a_text names e = e
 no_names some_operands names e = tt
 no_names an_edge names e = tt
@@ -89,6 +93,7 @@ module _ {D K A T : Type 0} (says : Saying K A T) (values : Values) (text : ℕ 
   parts_of (body.Attribute n) c ts takes h = h
   parts_of (body.List ms) c ts takes h = absurd takes
   parts_of body.Item c ts takes h = h
+  parts_of (body.Choice n) c ts takes h = h
   parts_of (body.Operation o) c ts takes h = h
   parts_of (body.Operands ks) c ts takes h = absurd takes
   parts_of (body.Successor ks) c ts takes h = absurd takes
@@ -101,18 +106,19 @@ module _ {D K A T : Type 0} (says : Saying K A T) (values : Values) (text : ℕ 
   of_parts (body.Attribute n) c ts takes h = h
   of_parts (body.List ms) c ts takes h = absurd takes
   of_parts body.Item c ts takes h = h
+  of_parts (body.Choice n) c ts takes h = h
   of_parts (body.Operation o) c ts takes h = h
   of_parts (body.Operands ks) c ts takes h = absurd takes
   of_parts (body.Successor ks) c ts takes h = absurd takes
   of_parts (body.Region bs) c ts takes h = absurd takes
   of_parts (body.Block b) c ts takes h = absurd takes
 
-  -- where one more part is said, that is one more tree
-  pub frame_put : (f g : opened.Open D K A T) (b : Body D K A T) (at : Position) (ts : Trees ActionSpan) (s : ActionSpan) (us : Trees ActionSpan) (x : Part D K A T) (p : ValueTree)
-      → TakesParts (sort_at at) → IsFrame says values text types f at ts → sort_of b ≡ sort_of f.body → HasPut f g b x s.first
+  -- where one more part is said, with the tokens of what is in it, that is one more tree
+  pub frame_put : (f g : opened.Open D K A T) (b : Body D K A T) (at : Position) (ts : Trees ActionSpan) (s : ActionSpan) (us : Trees ActionSpan) (x : Part D K A T) (p : ValueTree) (ks : List ℕ)
+      → TakesParts (sort_at at) → IsFrame says values text types f at ts → sort_of b ≡ sort_of f.body → HasPut f g b x ks → ks ≡ tokens_at s.action s.first (part_tokens us)
       → with_piece values s.action (text s.first) (count us) (pieces_in values text us) no_tree ≡ a_tree p no_tree
       → ShowsPart says types x p → IsFrame says values text types g at (behind ts (node s us))
-  frame_put f g b at ts s us x p takes h kind put piece shown =
+  frame_put f g b at ts s us x p ks takes h kind put token piece shown =
       let more : Trees ActionSpan = behind ts (node s us) in
       let q : pieces_in values text more ≡ join (pieces_in values text ts) (a_tree p no_tree) =
       pieces_behind values text ts s us ∙ ap (λ (r : Pieces). join (pieces_in values text ts) r) piece in
@@ -125,7 +131,7 @@ module _ {D K A T : Type 0} (says : Saying K A T) (values : Values) (text : ℕ 
         contains = of_parts g.body g.content.value more (subst TakesParts (sym sorts) takes) (record {
           parts = subst (λ (ps : Pieces). ShowsParts says types g.content.value.parts.items ps) (sym q)
               (subst (λ (xs : List (Part D K A T)). ShowsParts says types xs (join (pieces_in values text ts) (a_tree p no_tree))) (sym put.content.parts) shown_all);
-          tokens = put.content.tokens ∙ (ap (λ (ks : List ℕ). ks ++ s.first ∷ []) old.tokens ∙ sym (tokens_behind ts s us));
+          tokens = put.content.tokens ∙ (ap (λ (ns : List ℕ). ns ++ ks) old.tokens ∙ (ap (λ (ns : List ℕ). part_tokens ts ++ ns) token ∙ sym (parts_behind ts s us)));
         });
         named = unnamed (sort_at at) g.names.items more takes;
       }
@@ -178,8 +184,9 @@ module _ {D K A T : Type 0} (says : Saying K A T) (values : Values) (text : ℕ 
   fresh_contains f body.Text k h e = tt
   fresh_contains f (body.«Type» n) k h e = fresh_parts f (body.«Type» n) k h
   fresh_contains f (body.Attribute n) k h e = fresh_parts f (body.Attribute n) k h
-  fresh_contains f (body.List ms) k h e = rw e tt
+  fresh_contains f (body.List ms) k h e = record { members = rw e tt; tokens = h.tokens }
   fresh_contains f body.Item k h e = fresh_parts f body.Item k h
+  fresh_contains f (body.Choice n) k h e = fresh_parts f (body.Choice n) k h
   fresh_contains f (body.Operation o) k h e = fresh_parts f (body.Operation o) k h
   fresh_contains f (body.Operands ks) k h e = e
   fresh_contains f (body.Successor ks) k h e = e

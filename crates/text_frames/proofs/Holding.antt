@@ -15,7 +15,7 @@ use Rattle.ir_forest.specs.Building.{fault_at_end, with_end, behind, ended_tree}
 use Rattle.ir_grammar.specs.Nesting.{Position, at_end}
 use Rattle.text_frames.specs.building.Kept.{KeepsKeys}
 use Rattle.ir_formats.specs.Ordered.{Standing, alone, moved_out}
-use Rattle.text_frames.specs.Frames.{FrameSort, a_text, an_operation, some_operands, an_edge, a_region, a_block, a_type, an_attribute, a_list, an_item, sort_at, sort_of, EndsAt, Stands, Ending, Ended}
+use Rattle.text_frames.specs.Frames.{FrameSort, a_text, an_operation, some_operands, an_edge, a_region, a_block, a_type, an_attribute, a_list, an_item, a_choice, sort_at, sort_of, EndsAt, Stands, Ending, Ended}
 use Rattle.text_frames.proofs.Framing.{stands_later, stands_with, innermost}
 use Rattle.text_frames.proofs.Ended.{is_text}
 
@@ -31,6 +31,7 @@ root_sort a_type h = absurd h
 root_sort an_attribute h = absurd h
 root_sort a_list h = absurd h
 root_sort an_item h = cc
+root_sort a_choice h = absurd h
 
 module _ {D K A T : Type 0} (says : Saying K A T) (values : Values) (text : ℕ → List ℕ) (s : List T)
     (f g f0 g0 : opened.Open D K A T) (gs rest : List (opened.Open D K A T)) (last_is : gs ≡ rest ++ g ∷ []) (is_f : f0 ≡ f) (is_g : g0 ≡ g) (at : Position) (ts : Trees ActionSpan) where

@@ -18,7 +18,7 @@ use Rattle.text_frames.specs.declared.opened.Body.TheVariants as body
 use Rattle.text_frames.specs.declared.opened.Open.{Open}
 use Rattle.ir_forest.specs.Building as building
 use Rattle.ir_forest.specs.Forest.{ActionSpan}
-use Rattle.ir_grammar.specs.Nesting.{Position, at_root, behind_root_results, at_end, in_operation, in_operands, in_successor, in_region, in_header, in_argument, in_block, behind_results, in_value, in_list, in_item}
+use Rattle.ir_grammar.specs.Nesting.{Position, at_root, behind_root_results, at_end, in_operation, in_operands, in_successor, in_region, in_header, in_argument, in_block, behind_results, in_value, in_list, in_item, in_choice}
 use Rattle.text_frames.specs.Worlds.{joined, NameTokens, PartialModule, AreAmong, LaterNames, LaterWorld, End, MayEndAs, IsMade, IsReady, AreReady, AreReadyRegions, IsOpenBlock}
 use Rattle.ir_grammar.specs.declared.grammar.Action.{Action}
 use Rattle.ir_scopes.specs.Naming.{defined_by, mentioned_by, labelled_by, label_mentioned_by}
@@ -213,6 +213,7 @@ begun_behind behind_results h = cc
 begun_behind (in_value sort) h = cc
 begun_behind in_list h = cc
 begun_behind in_item h = cc
+begun_behind in_choice h = cc
 
 module _ {K A T : Type 0} (says : Saying K A T) (values : Values) (text : ℕ → List ℕ) (w v : PartialModule K A T)
     (l : LaterWorld w v) where
@@ -234,6 +235,7 @@ module _ {K A T : Type 0} (says : Saying K A T) (values : Values) (text : ℕ �
   root_later old new (in_value sort) ts keeps h = h
   root_later old new in_list ts keeps h = h
   root_later old new in_item ts keeps h = h
+  root_later old new in_choice ts keeps h = h
 
 module _ {D K A T : Type 0} (says : Saying K A T) (values : Values) (text : ℕ → List ℕ) (w v : PartialModule K A T)
     (l : LaterWorld w v) where
@@ -290,6 +292,7 @@ module _ {D K A T : Type 0} (says : Saying K A T) (values : Values) (text : ℕ 
   raises_later (body.Attribute n) f at ts keeps h = tt
   raises_later (body.List ms) f at ts keeps h = tt
   raises_later body.Item f at ts keeps h = tt
+  raises_later (body.Choice n) f at ts keeps h = tt
 
   pub raised_later : (f : Open D K A T) (at : Position) (ts : Trees ActionSpan)
       → KeepsEach w.ctx v.ctx (blocks_of_body f.body) → IsRaised says values text w f at ts

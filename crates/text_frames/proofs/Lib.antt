@@ -14,3 +14,4 @@ pub mod Made
 pub mod Bytes
 pub mod WaitingRows
 pub mod BuildingLemmas
+pub mod Quotes

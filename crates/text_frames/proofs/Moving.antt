@@ -7,9 +7,9 @@ use Rattle.ir_print.specs.Pieces.{number, width}
 use Rattle.ir_grammar.specs.declared.grammar.Action.TheVariants as act
 use Rattle.ir_forest.specs.Identifiers.{IsSpelt}
 use Rattle.ir_forest.specs.Meaning.{digits, leaf_in, number_in, width_in, tail}
-use Rattle.ir_grammar.specs.Nesting.{Position, at_root, behind_root_results, at_end, in_operation, in_operands, in_successor, in_region, in_header, in_argument, in_block, behind_results, in_value, in_list, in_item, move}
+use Rattle.ir_grammar.specs.Nesting.{Position, at_root, behind_root_results, at_end, in_operation, in_operands, in_successor, in_region, in_header, in_argument, in_block, behind_results, in_value, in_list, in_item, in_choice, move}
 use Rattle.ir_formats.specs.Ordered.{Standing, moved_by, moved_out}
-use Rattle.text_frames.specs.Frames.{FrameSort, an_operation, some_operands, an_edge, a_region, a_block, a_type, an_attribute, a_list, an_item, sort_at, TakesParts, EndsAt}
+use Rattle.text_frames.specs.Frames.{FrameSort, an_operation, some_operands, an_edge, a_region, a_block, a_type, an_attribute, a_list, an_item, a_choice, sort_at, TakesParts, EndsAt}
 use Rattle.ir_print.specs.declared.format.LeafSort.{LeafSort}
 use Rattle.ir_print.specs.declared.format.LeafSort.TheVariants as leaves
 use Rattle.ir_print.specs.declared.format.ValueSort.TheVariants as sorts
@@ -57,6 +57,7 @@ module _ (around : List Position) (next : Standing) where
   type_begins (in_value sorts.«Type») n h = record { inner = (in_value sorts.«Type»); outer = (in_value sorts.«Type»); leads = cc; stays = refl; is_sort = refl; ends = tt }
   type_begins (in_value sorts.Attribute) n h = record { inner = (in_value sorts.«Type»); outer = (in_value sorts.Attribute); leads = cc; stays = refl; is_sort = refl; ends = tt }
   type_begins in_item n h = record { inner = (in_value sorts.«Type»); outer = in_item; leads = cc; stays = refl; is_sort = refl; ends = tt }
+  type_begins in_choice n h = record { inner = (in_value sorts.«Type»); outer = in_choice; leads = cc; stays = refl; is_sort = refl; ends = tt }
   type_begins in_argument n h = record { inner = (in_value sorts.«Type»); outer = in_header; leads = cc; stays = refl; is_sort = refl; ends = tt }
   type_begins _ n h = cc
 
@@ -65,6 +66,7 @@ module _ (around : List Position) (next : Standing) where
   attribute_begins (in_value sorts.«Type») n h = record { inner = (in_value sorts.Attribute); outer = (in_value sorts.«Type»); leads = cc; stays = refl; is_sort = refl; ends = tt }
   attribute_begins (in_value sorts.Attribute) n h = record { inner = (in_value sorts.Attribute); outer = (in_value sorts.Attribute); leads = cc; stays = refl; is_sort = refl; ends = tt }
   attribute_begins in_item n h = record { inner = (in_value sorts.Attribute); outer = in_item; leads = cc; stays = refl; is_sort = refl; ends = tt }
+  attribute_begins in_choice n h = record { inner = (in_value sorts.Attribute); outer = in_choice; leads = cc; stays = refl; is_sort = refl; ends = tt }
   attribute_begins _ n h = cc
 
   pub list_begins : (p : Position) → moved_by (move p act.BeginList) around ≡ Some next → GoesIn a_list p around next
@@ -72,7 +74,16 @@ module _ (around : List Position) (next : Standing) where
   list_begins (in_value sorts.«Type») h = record { inner = in_list; outer = (in_value sorts.«Type»); leads = cc; stays = refl; is_sort = refl; ends = tt }
   list_begins (in_value sorts.Attribute) h = record { inner = in_list; outer = (in_value sorts.Attribute); leads = cc; stays = refl; is_sort = refl; ends = tt }
   list_begins in_item h = record { inner = in_list; outer = in_item; leads = cc; stays = refl; is_sort = refl; ends = tt }
+  list_begins in_choice h = record { inner = in_list; outer = in_choice; leads = cc; stays = refl; is_sort = refl; ends = tt }
   list_begins _ h = cc
+
+  pub choice_begins : (p : Position) (n : ℕ) → moved_by (move p (act.BeginChoice n)) around ≡ Some next → GoesIn a_choice p around next
+  choice_begins in_operation n h = record { inner = in_choice; outer = in_operation; leads = cc; stays = refl; is_sort = refl; ends = tt }
+  choice_begins (in_value sorts.«Type») n h = record { inner = in_choice; outer = (in_value sorts.«Type»); leads = cc; stays = refl; is_sort = refl; ends = tt }
+  choice_begins (in_value sorts.Attribute) n h = record { inner = in_choice; outer = (in_value sorts.Attribute); leads = cc; stays = refl; is_sort = refl; ends = tt }
+  choice_begins in_item n h = record { inner = in_choice; outer = in_item; leads = cc; stays = refl; is_sort = refl; ends = tt }
+  choice_begins in_choice n h = record { inner = in_choice; outer = in_choice; leads = cc; stays = refl; is_sort = refl; ends = tt }
+  choice_begins _ n h = cc
 
   pub item_begins : (p : Position) → moved_by (move p act.BeginItem) around ≡ Some next → GoesIn an_item p around next
   item_begins in_list h = record { inner = in_item; outer = in_list; leads = cc; stays = refl; is_sort = refl; ends = refl }
@@ -91,6 +102,7 @@ module _ (around : List Position) (next : Standing) where
   leaf_stays (in_value sorts.«Type») sort h = record { leads = cc; takes = tt }
   leaf_stays (in_value sorts.Attribute) sort h = record { leads = cc; takes = tt }
   leaf_stays in_item sort h = record { leads = cc; takes = tt }
+  leaf_stays in_choice sort h = record { leads = cc; takes = tt }
   leaf_stays _ sort h = cc
 
   pub result_goes : (p : Position) → moved_by (move p act.Result) around ≡ Some next → GoesTo p around next × Hollow (sort_at p)
@@ -148,6 +160,10 @@ module _ (around : List Position) (next : Standing) where
   item_out in_item h = (h, refl)
   item_out _ h = cc
 
+  pub choice_out : (p : Position) → moved_by (move p act.EndChoice) around ≡ Some next → (moved_out around ≡ Some next) × (sort_at p ≡ a_choice)
+  choice_out in_choice h = (h, refl)
+  choice_out _ h = cc
+
   pub list_out : (p : Position) → moved_by (move p act.EndList) around ≡ Some next → (moved_out around ≡ Some next) × (sort_at p ≡ a_list)
   list_out in_list h = (h, refl)
   list_out _ h = cc
@@ -177,4 +193,6 @@ is_width (c ∷ cs) = width_by (c == 115) (c == 117) (digits (tail cs)) (digits 
 pub spelt_leaf : (sort : LeafSort) (cs : List ℕ) → IsSpelt (act.Leaf sort) cs → IsSpelled (leaf_in sort cs)
 spelt_leaf leaves.Name cs h = h
 spelt_leaf leaves.Number cs h = subst IsSpelled (sym (is_number cs).2) tt
+spelt_leaf leaves.Digits cs h = tt
 spelt_leaf leaves.Width cs h = subst IsSpelled (sym (is_width cs).2) tt
+spelt_leaf leaves.Text cs h = tt

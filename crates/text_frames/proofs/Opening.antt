@@ -5,7 +5,7 @@ use Rattle.ir_base.specs.declared.types.TypeHandle.{TypeHandle}
 use Rattle.ir_context.specs.Known.{AreKnownIn}
 use Rattle.ir_names.specs.Tree.{Trees, node}
 use Rattle.ir_program.specs.Program.{RegionView, operation_at, block_at, region_at}
-use Rattle.ir_print.specs.Pieces.{value_of_kind, list, item, operands, successor, region, leaf, name, number, width, ValueTree}
+use Rattle.ir_print.specs.Pieces.{value_of_kind, list, item, chosen, operands, successor, region, leaf, name, number, width, ValueTree}
 use Rattle.text_dialect.specs.declared.dialect.MakeFault.{MakeFault}
 use Rattle.text_dialect.specs.declared.dialect.MakeFault.TheVariants as make
 use Rattle.ir_print.specs.declared.format.Part.{Part}
@@ -17,7 +17,8 @@ use Rattle.text_frames.specs.declared.opened.AssemblyFault.{AssemblyFault}
 use Rattle.text_frames.specs.declared.opened.AssemblyFault.TheVariants.{Memory, Text}
 use Rattle.text_frames.specs.declared.opened.Body.{Body}
 use Rattle.text_frames.specs.declared.opened.Open.{Open}
-use Rattle.ir_forest.specs.Building.{number_fault}
+use Rattle.ir_forest.specs.ValueFaults.{piece_token}
+use Rattle.ir_tokens.specs.declared.faults.FaultKind.{FaultKind}
 use Rattle.ir_forest.specs.Forest.{ActionSpan}
 use Rattle.text_frames.specs.Opened.{HasPut}
 use Rattle.text_dialect.specs.Seen.{seen, seen_operation, seen_block}
@@ -26,9 +27,9 @@ use Rattle.ir_print.specs.declared.format.ValueSort.TheVariants as sorts
 use Rattle.text_frames.proofs.BuildingLemmas.Opened.{ContextOf}
 
 -- a part that is put where the body has become another one
-pub put_with_body : {D K A T : Type 0} (f between g : Open D K A T) (b : Body D K A T) (p q : Part D K A T) (token : ℕ)
-    → between ≡ record f { body = b } → p ≡ q → HasPut between g between.body p token → HasPut f g b q token
-put_with_body f between g b p q token e ep h = record {
+pub put_with_body : {D K A T : Type 0} (f between g : Open D K A T) (b : Body D K A T) (p q : Part D K A T) (tokens : List ℕ)
+    → between ≡ record f { body = b } → p ≡ q → HasPut between g between.body p tokens → HasPut f g b q tokens
+put_with_body f between g b p q tokens e ep h = record {
   body = h.body ∙ ap (λ x. x.body) e;
   first = h.first ∙ ap (λ x. x.first) e;
   content = record {
@@ -40,14 +41,18 @@ put_with_body f between g b p q token e ep h = record {
   numbers = h.numbers ∙ ap (λ x. x.numbers) e;
 }
 
--- what a value isn't made for is a fault at the piece that its dialect refuses
-pub refused_at_piece : (r : AssemblyFault) (fault : MakeFault) (ts : Trees ActionSpan) (at : Option ℕ) (last : ℕ)
+-- a fault of this kind at the part with a number
+abbrev pub fault_at_part : FaultKind → Trees ActionSpan → ℕ → ℕ → Fault
+fault_at_part kind ts last i = record { kind = kind; met = last; place = piece_token ts i last }
+
+-- what a value isn't made for is a fault at the part that its dialect refuses
+pub refused_at_part : (r : AssemblyFault) (fault : MakeFault) (kind : FaultKind) (ts : Trees ActionSpan) (at : Option ℕ) (last : ℕ)
     → ((i : ℕ) → fault ≡ make.Refused i → at ≡ Some i)
-    → ((i : ℕ) → fault ≡ make.Refused i → (f : Fault) × (r ≡ Text f) × (number_fault ts last i ≡ Some f))
+    → ((i : ℕ) → fault ≡ make.Refused i → r ≡ Text (fault_at_part kind ts last i))
     → (fault ≡ make.Memory → r ≡ Memory)
-    → (f : Fault) → r ≡ Text f → (i : ℕ) × (at ≡ Some i) × (number_fault ts last i ≡ Some f)
-refused_at_piece r (make.Refused i) ts at last h n m f e = let p = n i refl in (i, h i refl, cc (p.1, p.2, e))
-refused_at_piece r make.Memory ts at last h n m f e = let q = m refl in let bad : ⊥ = cc (q, e) in absurd bad
+    → (f : Fault) → r ≡ Text f → (i : ℕ) × (at ≡ Some i) × (f ≡ fault_at_part kind ts last i)
+refused_at_part r (make.Refused i) kind ts at last h n m f e = let p = n i refl in (i, h i refl, cc (p, e))
+refused_at_part r make.Memory kind ts at last h n m f e = let q = m refl in let bad : ⊥ = cc (q, e) in absurd bad
 
 -- types that stay under their handles stay at their places
 pub keeps_keys : {K B S : Type 0} (s t : TypesView K B S) → KeepsTypes s t → KeepsKeys s.keys t.keys
@@ -72,6 +77,7 @@ module _ {K A T : Type 0} (says : Saying K A T) (types : List T) where
   known_one ty (node (value_of_kind sorts.Attribute n) ts) (attr, us, e, says_it, all) = cc
   known_one ty (node list ts) (us, e, all) = cc
   known_one ty (node item ts) (us, e, all) = cc
+  known_one ty (node (chosen n) ts) (us, e, all) = cc
   known_one ty (node (operands n) ts) e = cc
   known_one ty (node (successor n) ts) e = cc
   known_one ty (node region ts) e = cc

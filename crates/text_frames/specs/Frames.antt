@@ -1,5 +1,7 @@
 -- What is open while a text is assembled, and the trees that are built of it.
-use Rattle.std.specs.Prelude.{◌≡◌, ℕ, List, [], ◌∷◌, None}
+use Rattle.std.specs.Prelude.{◌≡◌, ℕ, List, [], ◌∷◌, None, Vec}
+use Rattle.std.specs.Global.{Global}
+use Rattle.ir_print.specs.declared.format.Part.{Part}
 use Rattle.ir_names.specs.Tree.{Trees}
 use Rattle.ir_print.specs.Pieces.{Values}
 use Rattle.ir_print.specs.Shown.{Saying, ShowsParts, ShowsMembers}
@@ -11,16 +13,17 @@ use Rattle.text_frames.specs.declared.opened.Content.{Content}
 use Rattle.text_frames.specs.declared.opened.Open.{Open}
 use Rattle.ir_forest.specs.Forest.{ActionSpan}
 use Rattle.ir_forest.specs.Meaning.{pieces_in, tokens_in}
+use Rattle.ir_forest.specs.ValueFaults.{part_tokens}
 use Rattle.ir_forest.specs.Building as building
 use Rattle.ir_forest.specs.Building.{behind, ended_tree, names_behind, fault_at_end}
 use Rattle.ir_print.specs.declared.format.ValueSort.TheVariants as sorts
-use Rattle.ir_grammar.specs.Nesting.{Position, at_root, behind_root_results, at_end, in_operation, in_operands, in_successor, in_region, in_header, in_argument, in_block, behind_results, in_value, in_list, in_item}
+use Rattle.ir_grammar.specs.Nesting.{Position, at_root, behind_root_results, at_end, in_operation, in_operands, in_successor, in_region, in_header, in_argument, in_block, behind_results, in_value, in_list, in_item, in_choice}
 
 -- ---- sorts
 
 -- the sorts of what may be open
 pub data FrameSort : Type 0 where
-  a_text an_operation some_operands an_edge a_region a_block a_type an_attribute a_list an_item : FrameSort
+  a_text an_operation some_operands an_edge a_region a_block a_type an_attribute a_list an_item a_choice : FrameSort
 
 -- the sort of what is open at a position
 abbrev pub sort_at : Position → FrameSort
@@ -39,6 +42,7 @@ sort_at (in_value sorts.«Type») = a_type
 sort_at (in_value sorts.Attribute) = an_attribute
 sort_at in_list = a_list
 sort_at in_item = an_item
+sort_at in_choice = a_choice
 
 -- what is said in something of this sort is its parts, one for each tree
 abbrev pub TakesParts : FrameSort → Type 0
@@ -46,6 +50,7 @@ TakesParts an_operation = Unit {0}
 TakesParts a_type = Unit {0}
 TakesParts an_attribute = Unit {0}
 TakesParts an_item = Unit {0}
+TakesParts a_choice = Unit {0}
 TakesParts _ = ⊥
 
 -- something of this sort stands in a block or at the root
@@ -71,6 +76,7 @@ EndsAt a_type p = TakesTypes p
 EndsAt an_attribute p = TakesParts (sort_at p)
 EndsAt a_list p = TakesParts (sort_at p)
 EndsAt an_item p = p ≡ in_list
+EndsAt a_choice p = TakesParts (sort_at p)
 
 module _ {D K A T : Type 0} where
   -- the sort of a body
@@ -80,6 +86,7 @@ module _ {D K A T : Type 0} where
   sort_of (body.Attribute n) = an_attribute
   sort_of (body.List ms) = a_list
   sort_of body.Item = an_item
+  sort_of (body.Choice n) = a_choice
   sort_of (body.Operation o) = an_operation
   sort_of (body.Operands ks) = some_operands
   sort_of (body.Successor ks) = an_edge
@@ -93,6 +100,7 @@ module _ {D K A T : Type 0} where
   Begins (body.Attribute n) a = a ≡ act.Begin sorts.Attribute n
   Begins (body.List ms) a = a ≡ act.BeginList
   Begins body.Item a = a ≡ act.BeginItem
+  Begins (body.Choice n) a = a ≡ act.BeginChoice n
   Begins (body.Operation o) a = a ≡ act.Operation o.kind
   Begins (body.Operands ks) a = a ≡ act.BeginOperands
   Begins (body.Successor ks) a = a ≡ act.BeginSuccessor
@@ -113,18 +121,24 @@ NamesResults a_block names ts = names ≡ names_behind [] ts
 NamesResults _ names ts = Unit {0}
 
 module _ {D K A T : Type 0} (says : Saying K A T) (values : Values) (text : ℕ → List ℕ) (types : List T) where
-  -- the parts are what these trees say, each at the token of its tree
+  -- the parts are what these trees say, and the tokens those of their parts
   pub record SaysParts (c : Content D K A T) (ts : Trees ActionSpan) : Type 0 where
     pub parts : ShowsParts says types c.parts.items (pieces_in values text ts)
-    pub tokens : c.tokens.items ≡ tokens_in ts
+    pub tokens : c.tokens.items ≡ part_tokens ts
+
+  -- the members of a list are what these trees say, and the tokens those of their parts
+  pub record SaysMembers (ms : List (Vec (Part D K A T) Global)) (c : Content D K A T) (ts : Trees ActionSpan) : Type 0 where
+    pub members : ShowsMembers says types ms (pieces_in values text ts)
+    pub tokens : c.tokens.items ≡ part_tokens ts
 
   -- What is in it is what these trees say: members of a list, tokens of operands, or parts. Nothing is said here of blocks.
   abbrev pub Contains : Body D K A T → Content D K A T → Trees ActionSpan → Type 0
   Contains body.Text c ts = Unit {0}
   Contains (body.«Type» n) c ts = SaysParts c ts
   Contains (body.Attribute n) c ts = SaysParts c ts
-  Contains (body.List ms) c ts = ShowsMembers says types ms.items (pieces_in values text ts)
+  Contains (body.List ms) c ts = SaysMembers ms.items c ts
   Contains body.Item c ts = SaysParts c ts
+  Contains (body.Choice n) c ts = SaysParts c ts
   Contains (body.Operation o) c ts = SaysParts c ts
   Contains (body.Operands ks) c ts = ks.items ≡ tokens_in ts
   Contains (body.Successor ks) c ts = ks.items ≡ tokens_in ts

@@ -1,5 +1,5 @@
 -- What becomes of what is open while a text is assembled.
-use Rattle.std.specs.Prelude.{◌≡◌, ℕ, [], ◌∷◌, ◌++◌}
+use Rattle.std.specs.Prelude.{◌≡◌, ℕ, List, [], ◌∷◌, ◌++◌}
 use Rattle.ir_base.specs.declared.growth.GrowError.{GrowError}
 use Rattle.ir_base.specs.declared.growth.GrowError.TheVariants as growth
 use Rattle.ir_print.specs.declared.format.Part.{Part}
@@ -30,17 +30,26 @@ module _ {D K A T : Type 0} where
     pub names : f.names.items ≡ []
     pub numbers : f.numbers.items ≡ []
 
-  -- one more part stands behind the others
-  pub record HasPart (c d : Content D K A T) (part : Part D K A T) (token : ℕ) : Type 0 where
+  -- one more part stands behind the others, with these tokens
+  pub record HasPart (c d : Content D K A T) (part : Part D K A T) (behind : List ℕ) : Type 0 where
     pub parts : d.parts.items ≡ c.parts.items ++ part ∷ []
-    pub tokens : d.tokens.items ≡ c.tokens.items ++ token ∷ []
+    pub tokens : d.tokens.items ≡ c.tokens.items ++ behind
 
-  -- One more part stands behind the others in what is open, and no name of a result behind it. The body is this one now.
-  pub record HasPut (f g : Open D K A T) (b : Body D K A T) (part : Part D K A T) (token : ℕ) : Type 0 where
+  -- One more part with these tokens stands behind the others in what is open, and no name of a result behind it. The body is this one
+  -- now.
+  pub record HasPut (f g : Open D K A T) (b : Body D K A T) (part : Part D K A T) (behind : List ℕ) : Type 0 where
     pub body : g.body ≡ b
     pub first : g.first ≡ f.first
-    pub content : HasPart f.content.value g.content.value part token
+    pub content : HasPart f.content.value g.content.value part behind
     pub names : g.names.items ≡ []
+    pub numbers : g.numbers ≡ f.numbers
+
+  -- The list that is open has this body now, and the tokens of one member more.
+  pub record HasMember (f g : Open D K A T) (b : Body D K A T) (behind : List ℕ) : Type 0 where
+    pub body : g.body ≡ b
+    pub first : g.first ≡ f.first
+    pub tokens : g.content.value.tokens.items ≡ f.content.value.tokens.items ++ behind
+    pub names : g.names ≡ f.names
     pub numbers : g.numbers ≡ f.numbers
 
   -- one more name of a result stands behind the others

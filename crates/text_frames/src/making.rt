@@ -1,5 +1,5 @@
 //! What is made of what a text says.
-ghost use Rattle.std.specs.Prelude.{◌≡◌, ◌↔◌, ℕ, IfOk, None, Some, Err, true, false};
+ghost use Rattle.std.specs.Prelude.{◌≡◌, ◌↔◌, ℕ, length, IfOk, None, Some, Err, true, false};
 ghost use Rattle.ir_characters.specs.Texts.{codes_of};
 ghost use Rattle.ir_names.specs.declared.identifier.Identifier.{Identifier};
 ghost use Rattle.ir_names.specs.Identifier.{text_of, invalid};
@@ -14,7 +14,7 @@ ghost use Rattle.ir_types.specs.Interned.{KeepsTypes};
 ghost use Rattle.text_dialect.specs.declared.dialect.MakeFault.TheVariants.{Refused};
 ghost use Rattle.text_frames.specs.Makes.{IsSpelled, types_in};
 
-use crate::source::{number_of, width_of};
+use crate::source::{number_of, string_of, unsigned_of, width_of};
 use ir_characters::Text;
 use ir_context::Context;
 use ir_names::{Identifier, IdentifierError, InvalidIdentifier, TypeHandle};
@@ -64,6 +64,17 @@ pub fn make_attribute<D: TextDialect>(
         return Err(MakeFault::Refused(0));
     };
     D::make_attr(alloc, ctx, found, parts)
+}
+
+/// How many results an operation of these parts has, of the kind with a number.
+pub fn results_of<D: TextDialect>(ctx: &Context<D>, kind: u8, parts: &[Part<D>]) -> usize
+    ensures { (ps : Pieces) → ShowsParts D.says ctx.now.types.keys parts.now ps
+        → result ≡ length (D.values.result_types kind ps) }
+{
+    match D::op_kind_at(kind as usize) {
+        Some(found) => D::num_results(ctx, found, parts),
+        None => 0,
+    }
 }
 
 /// The kind with a number, and what an operation of it and of these parts is made with, or the first part that is
@@ -123,10 +134,12 @@ pub fn leaf_of(alloc: Global, sort: LeafSort, text: Text) -> Result<Option<LeafV
     match sort {
         LeafSort::Name => Ok(label_of(alloc, text)?.map(LeafValue::Name)),
         LeafSort::Number => Ok(Some(LeafValue::Number(number_of(text)))),
+        LeafSort::Digits => Ok(Some(LeafValue::Digits(unsigned_of(text)))),
         LeafSort::Width => {
             let (signedness, width) = width_of(text);
             Ok(Some(LeafValue::Width(signedness, width)))
         }
+        LeafSort::Text => Ok(Some(LeafValue::Text(string_of(alloc, text)?))),
     }
 }
 

@@ -1,11 +1,10 @@
 //! What was begun in a text and isn't ended.
-ghost use Rattle.std.specs.Prelude.{◌≡◌, [], OnOk, IfErr};
+ghost use Rattle.std.specs.Prelude.{◌≡◌, [], ◌∷◌, OnOk, IfErr};
 ghost use Rattle.ir_names.specs.Tree.{Trees};
 ghost use Rattle.text_frames.specs.declared.opened.AssemblyFault.TheVariants.{Memory};
 ghost use Rattle.ir_forest.specs.Forest.{ActionSpan};
-ghost use Rattle.ir_forest.specs.Meaning.{tokens_in};
 ghost use Rattle.text_frames.specs.Opened.{IsFreshFrame, HasPart, HasPut};
-ghost use Rattle.ir_forest.specs.ValueFaults.{piece_token};
+ghost use Rattle.ir_forest.specs.ValueFaults.{part_tokens, piece_token};
 
 use ir_names::{Dialects, GrowError};
 use ir_print::Part;
@@ -54,7 +53,8 @@ impl From<GrowError> for AssemblyFault {
     }
 }
 
-/// What is said in something so far: parts, each with the token at which it begins.
+/// What is said in something so far: parts, and the tokens at which those begin that a dialect may refuse, in the order of the
+/// text. What is in lists and choices has tokens, not they themselves.
 #[derive(Drop)]
 pub struct Content<D: Dialects> {
     pub parts: Vec<Part<D>>,
@@ -92,6 +92,8 @@ pub enum Body<D: Dialects> {
     List(Vec<Vec<Part<D>>>),
     /// A member of a list.
     Item,
+    /// What the format with this number, of several, says.
+    Choice(usize),
     Operation(OpenOperation),
     /// Operands, by the tokens that name them.
     Operands(Vec<usize>),
@@ -139,7 +141,7 @@ impl<D: Dialects> Content<D> {
     /// One more part, which begins at the token.
     #[inline(always)]
     pub fn put(&mut self, part: Part<D>, token: usize) -> Result<(), AssemblyFault>
-        ensures put { OnOk result (HasPart self.old self.new part token) }
+        ensures put { OnOk result (HasPart self.old self.new part (token ∷ [])) }
         ensures memory { IfErr result (λ e. e ≡ Memory) }
     {
         self.parts.push(part)?;
@@ -147,9 +149,19 @@ impl<D: Dialects> Content<D> {
         Ok(())
     }
 
+    /// One more part, in which these tokens begin parts.
+    pub fn put_all(&mut self, part: Part<D>, tokens: &[usize]) -> Result<(), AssemblyFault>
+        ensures put { OnOk result (HasPart self.old self.new part tokens.now) }
+        ensures memory { IfErr result (λ e. e ≡ Memory) }
+    {
+        self.parts.push(part)?;
+        self.tokens.extend_from_slice(tokens)?;
+        Ok(())
+    }
+
     /// The token at which the part with a number begins, or another one where there is no such part.
     pub fn token(&self, number: usize, other: usize) -> usize
-        ensures { (ts : Trees ActionSpan) → self.now.tokens.items ≡ tokens_in ts
+        ensures { (ts : Trees ActionSpan) → self.now.tokens.items ≡ part_tokens ts
             → result ≡ piece_token ts number other }
     {
         match self.tokens.get(number) {
@@ -177,10 +189,19 @@ impl<D: Dialects> Open<D> {
     /// One more part, behind which no name of a result stands yet.
     #[inline(always)]
     pub fn put(&mut self, part: Part<D>, token: usize) -> Result<(), AssemblyFault>
-        ensures put { OnOk result (HasPut self.old self.new self.old.body part token) }
+        ensures put { OnOk result (HasPut self.old self.new self.old.body part (token ∷ [])) }
         ensures memory { IfErr result (λ e. e ≡ Memory) }
     {
         self.names.clear();
         self.content.put(part, token)
+    }
+
+    /// One more part, in which these tokens begin parts, and behind which no name of a result stands yet.
+    pub fn put_all(&mut self, part: Part<D>, tokens: &[usize]) -> Result<(), AssemblyFault>
+        ensures put { OnOk result (HasPut self.old self.new self.old.body part tokens.now) }
+        ensures memory { IfErr result (λ e. e ≡ Memory) }
+    {
+        self.names.clear();
+        self.content.put_all(part, tokens)
     }
 }

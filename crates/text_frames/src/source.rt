@@ -1,16 +1,17 @@
 //! A text with its tokens, and what single tokens say.
-ghost use Rattle.std.specs.Prelude.{◌≡◌, ◌+◌, ◌*◌, ◌-◌, ◌<◌, ◌^◌, ℕ, Bool, SomeIff, length, take, drop};
+ghost use Rattle.std.specs.Prelude.{◌≡◌, ◌+◌, ◌*◌, ◌-◌, ◌<◌, ◌^◌, ℕ, Bool, SomeIff, IfOk, OnOk, List, [], ◌∷◌, ◌++◌, length, take, drop, chars, string_bytes};
 ghost use Rattle.ir_characters.specs.Texts.{codes_of};
 ghost use Rattle.ir_names.specs.declared.kinds.Signedness.{Signedness};
 ghost use Rattle.ir_print.specs.Pieces.{number, width};
-ghost use Rattle.ir_print.specs.Shown.{IsNumber, IsWidth};
-ghost use Rattle.ir_forest.specs.Meaning.{digits, number_in, width_in};
+ghost use Rattle.ir_print.specs.Shown.{AreDigitsOf, IsNumber, IsWidth};
+ghost use Rattle.ir_forest.specs.Meaning.{digits, number_in, width_in, unescaped};
 ghost use Rattle.ir_tokens.specs.Tokens.{text_between};
 
 use ir_characters::Text;
 use ir_names::Signedness;
 use ir_print::Number;
 use ir_tokens::Numbers;
+use std::alloc::{AllocError, Global};
 
 /// A text with its tokens.
 #[derive(Clone, Copy)]
@@ -89,6 +90,13 @@ pub fn number_of(text: Text) -> Option<Number>
     })
 }
 
+/// What a token says that is a number without a sign.
+pub fn unsigned_of(text: Text) -> Option<u64>
+    ensures { AreDigitsOf result (digits (codes_of text.entry)) }
+{
+    digits_value(text, 0)
+}
+
 /// The number of bits that the decimal digits from this place to the end say, if it is below 2^32.
 fn bits_of(text: Text, from: usize) -> Option<u32>
     ensures { IsWidth result (digits (drop from (codes_of text.entry))) }
@@ -109,4 +117,33 @@ pub fn width_of(text: Text) -> (Signedness, Option<u32>)
         'u' => (Signedness::Unsigned, bits_of(text, 2)),
         _ => (Signedness::Signless, bits_of(text, 1)),
     }
+}
+
+/// Puts a character behind a text.
+fn push_character(text: &mut String, c: char) -> Result<(), AllocError>
+    ensures { OnOk result (chars (string_bytes text.new) ≡ chars (string_bytes text.old) ++ c ∷ []) }
+{
+    text.push(c)
+}
+
+/// What a text in quotes says: a `\` stands for the character behind it.
+pub fn string_of(alloc: Global, text: Text) -> Result<String, AllocError>
+    ensures { IfOk result (λ string. chars (string_bytes string) ≡ unescaped (drop 1 (codes_of text.entry))) }
+{
+    let mut string = String::new(alloc);
+    let mut is_escape = false;
+    for place in 1..text.len() {
+        let c = text.at(place);
+        if is_escape {
+            push_character(&mut string, c)?;
+            is_escape = false;
+        } else if c == '\\' {
+            is_escape = true;
+        } else if c == '"' {
+            return Ok(string);
+        } else {
+            push_character(&mut string, c)?;
+        }
+    }
+    Ok(string)
 }

@@ -1,20 +1,20 @@
 -- What printing one type, one attribute or one part adds.
 use Rattle.std.proofs.Common.{◌≡◌, ℕ, suc, zero, ◌-◌, ◌<◌, List, ◌++◌, sym, ap, ◌∙◌, subst, arith}
-use Rattle.std.specs.Prelude.{true, Option, Some, slice_get, option_map, Vec}
+use Rattle.std.specs.Prelude.{true, Option, Some, None, slice_get, option_map, Vec}
 use Rattle.std.specs.Global.{Global}
 use Rattle.ir_base.specs.declared.types.TypeHandle.{TypeHandle}
 use Rattle.ir_names.specs.Tree.{LabelledTree, Trees, node, label_of}
-use Rattle.ir_print.specs.Formats.{Formats, Kind, Step, Steps, list_of}
-use Rattle.ir_print.specs.Layout.{Chunk, spell, an_id, Printer, piece_on, type_on, parts_on, format_on, kind_on, members_on, Deeper, IsFlat, AreFlat}
+use Rattle.ir_print.specs.Formats.{Formats, Kind, Step, Steps, Choices, alternative, choice_of, list_of}
+use Rattle.ir_print.specs.Layout.{Chunk, spell, an_id, Printer, alternative_of, piece_on, type_on, parts_on, format_on, some_format_on, kind_on, members_on, Deeper, IsFlat, AreFlat}
 use Rattle.ir_print.specs.Nested.{is_nested_little}
-use Rattle.ir_print.specs.Pieces.{Piece, value_of_kind, list, item, operands, successor, region, leaf, ValueTree, Pieces, Values}
+use Rattle.ir_print.specs.Pieces.{Piece, value_of_kind, list, item, chosen, operands, successor, region, leaf, ValueTree, Pieces, Values}
 use Rattle.text_printing.specs.Printing.{AddsText, AddsLeaf, IsReadable, AreReadable}
 use Rattle.ir_print.specs.Shapes.{SaysTypes, SaysAttributes}
-use Rattle.ir_print.specs.Shown.{Saying, Shows, ShowsAll, ShowsKey, ShowsPart, ShowsParts, ShowsMembers, ShowsType, ShowsAttribute, IsKindOf, IsLeaf, alone, Said, said_type, said_attribute, said_list, said_item, said_operands, said_successor, said_region, said_leaf}
+use Rattle.ir_print.specs.Shown.{Saying, Shows, ShowsAll, ShowsKey, ShowsPart, ShowsParts, ShowsMembers, ShowsType, ShowsAttribute, IsKindOf, IsLeaf, alone, Said, said_type, said_attribute, said_list, said_item, said_choice, said_operands, said_successor, said_region, said_leaf}
 use Rattle.ir_print.specs.declared.format.Part.{Part, Part-F, out-Part}
 use Rattle.ir_print.specs.declared.format.Part.TheVariants as part
 use Rattle.ir_print.specs.declared.format.LeafValue.{LeafValue}
-use Rattle.ir_print.specs.declared.format.Part.TheVariants.{outs-Operands, outs-Successor, outs-Attribute, outs-Type, outs-Region, outs-Leaf, outs-List}
+use Rattle.ir_print.specs.declared.format.Part.TheVariants.{outs-Operands, outs-Successor, outs-Attribute, outs-Type, outs-Region, outs-Leaf, outs-List, outs-Choice}
 use Rattle.text_printing.proofs.ListOwed.{no_members}
 use Rattle.text_printing.proofs.Owed.{wrote}
 use Rattle.text_printing.proofs.Readable.{readable, type_nested, attribute_nested}
@@ -27,6 +27,7 @@ sort_of (value_of_kind sorts.«Type» n) = 0
 sort_of (value_of_kind sorts.Attribute n) = 1
 sort_of list = 2
 sort_of item = 3
+sort_of (chosen n) = 7
 sort_of (operands n) = 4
 sort_of (successor n) = 9
 sort_of region = 5
@@ -38,6 +39,7 @@ said_sort (said_type ty) = 0
 said_sort (said_attribute a) = 1
 said_sort said_list = 2
 said_sort said_item = 3
+said_sort (said_choice n) = 7
 said_sort (said_operands n) = 4
 said_sort (said_successor n) = 9
 said_sort said_region = 5
@@ -47,6 +49,7 @@ abbrev pub part_sort : {D K A T P : Type 0} → Part-F D K A T P → ℕ
 part_sort (Part-F.Type ty) = 0
 part_sort (Part-F.Attribute a) = 1
 part_sort (Part-F.List ms) = 2
+part_sort (Part-F.Choice n ps) = 7
 part_sort (Part-F.Operands n) = 4
 part_sort (Part-F.Successor n) = 9
 part_sort Part-F.Region = 5
@@ -58,6 +61,7 @@ module _ {K A T : Type 0} (says : Saying K A T) (types : List T) where
   said_sorts x (value_of_kind sorts.Attribute n) ts h = ap (λ y. said_sort (label_of y)) h.2
   said_sorts x list ts h = ap (λ y. said_sort (label_of y)) h.1
   said_sorts x item ts h = ap (λ y. said_sort (label_of y)) h.1
+  said_sorts x (chosen n) ts h = ap (λ y. said_sort (label_of y)) h.1
   said_sorts x (operands n) ts h = ap (λ y. said_sort (label_of y)) h
   said_sorts x (successor n) ts h = ap (λ y. said_sort (label_of y)) h
   said_sorts x region ts h = ap (λ y. said_sort (label_of y)) h
@@ -127,6 +131,7 @@ module _ {D K A T : Type 0} (says : Saying K A T) (types : List T) where
   part_sorts p (value_of_kind sorts.Attribute n) ts h = ap sort_in h.1 ∙ ap part_sort (outs-Attribute h.0)
   part_sorts p list ts h = ap sort_in h.1 ∙ ap part_sort (outs-List h.0)
   part_sorts p item ts h = absurd h
+  part_sorts p (chosen n) ts h = ap sort_in h.1 ∙ ap part_sort (outs-Choice n h.0)
   part_sorts p (operands n) ts h = ap sort_in h ∙ ap part_sort (outs-Operands n)
   part_sorts p (successor n) ts h = ap sort_in h ∙ ap part_sort (outs-Successor n)
   part_sorts p region ts h = ap sort_in h ∙ ap part_sort outs-Region
@@ -147,6 +152,10 @@ module _ {D K A T : Type 0} (says : Saying K A T) (types : List T) where
   same_list : (x y : Vec (Vec (Part D K A T) Global) Global) (p : Part D K A T) → p ≡ part.List x → p ≡ part.List y → x ≡ y
   same_list x y p e h =
       let o : Part-F.List x ≡ Part-F.List y = sym (outs-List x) ∙ ap (out-Part D K A T) (sym e ∙ h) ∙ outs-List y in cc
+
+  same_choice : (m n : ℕ) (x y : Vec (Part D K A T) Global) (p : Part D K A T) → p ≡ part.Choice m x → p ≡ part.Choice n y → (m ≡ n) × (x ≡ y)
+  same_choice m n x y p e h =
+      let o : Part-F.Choice m x ≡ Part-F.Choice n y = sym (outs-Choice m x) ∙ ap (out-Part D K A T) (sym e ∙ h) ∙ outs-Choice n y in (cc, cc)
 
   module _ (f : Formats) (left lists : ℕ) (p : Part D K A T) (s : Step) where
     pub type_part_printed : (ty : TypeHandle) (a b : List ℕ) → p ≡ part.Type ty → ((t : ValueTree) (rest : List Chunk) → ShowsType says types ty t → IsFlat left t → AddsText a b rest (type_on f t rest)) → PrintsPart says types f left lists p s a b
@@ -171,6 +180,34 @@ module _ {D K A T : Type 0} (says : Saying K A T) (types : List T) where
     no_list_printed ms a e none (node (value_of_kind sorts.«Type» n) ts) rest h flat r = absurd (omega (arith, part_sorts p (value_of_kind sorts.«Type» n) ts h, ap sort_in e ∙ ap part_sort (outs-List ms)))
     no_list_printed ms a e none (node (value_of_kind sorts.Attribute n) ts) rest h flat r = absurd (omega (arith, part_sorts p (value_of_kind sorts.Attribute n) ts h, ap sort_in e ∙ ap part_sort (outs-List ms)))
     no_list_printed ms a e none (node q ts) rest h flat r = absurd (omega (arith, part_sorts p q ts h, ap sort_in e ∙ ap part_sort (outs-List ms)))
+
+    -- nor does a part that isn't a choice there
+    pub no_choice_printed : (m : ℕ) (qs : Vec (Part D K A T) Global) (a : List ℕ) → p ≡ part.Choice m qs → ((n : ℕ) → alternative_of s n ≡ None) → PrintsPart says types f left lists p s a a
+    no_choice_printed m qs a e none (node (chosen n) ts) rest h flat r = ap (λ o. a ++ spell (some_format_on o (parts_on f ts) rest)) (sym (none n))
+    no_choice_printed m qs a e none (node (value_of_kind sorts.«Type» n) ts) rest h flat r = absurd (omega (arith, part_sorts p (value_of_kind sorts.«Type» n) ts h, ap sort_in e ∙ ap part_sort (outs-Choice m qs)))
+    no_choice_printed m qs a e none (node (value_of_kind sorts.Attribute n) ts) rest h flat r = absurd (omega (arith, part_sorts p (value_of_kind sorts.Attribute n) ts h, ap sort_in e ∙ ap part_sort (outs-Choice m qs)))
+    no_choice_printed m qs a e none (node q ts) rest h flat r = absurd (omega (arith, part_sorts p q ts h, ap sort_in e ∙ ap part_sort (outs-Choice m qs)))
+
+  -- a choice there is printed by its format with the number
+  choice_by : (f : Formats) (left lists : ℕ) (p : Part D K A T) (s : Step) (cs : Choices) (m : ℕ) (qs : Vec (Part D K A T) Global) (a b : List ℕ) → p ≡ part.Choice m qs → s ≡ choice_of cs
+      → ((ts : Pieces) (rest : List Chunk) → ShowsParts says types qs.items ts → AreFlat left ts → AreReadable lists ts → AddsText a b rest (some_format_on (alternative cs m) (parts_on f ts) rest))
+      → (t : ValueTree) (rest : List Chunk) → ShowsPart says types p t → IsFlat left t → IsReadable (suc lists) t → AddsText a b rest (piece_on f t s rest)
+  choice_by f left lists p s cs m qs a b e es print (node (chosen n) ts) rest h flat r =
+      let same : (n ≡ m) × (h.0 ≡ qs) = same_choice n m h.0 qs p h.1 e in
+      subst (λ x. AddsText a b rest (some_format_on (alternative_of x n) (parts_on f ts) rest)) (sym es)
+      (subst (λ k. AddsText a b rest (some_format_on (alternative cs k) (parts_on f ts) rest)) (sym same.0)
+      (print ts rest (subst (λ (v : Vec (Part D K A T) Global). ShowsParts says types v.items ts) same.1 h.2) flat r))
+  choice_by f left lists p s cs m qs a b e es print (node (value_of_kind sorts.«Type» n) ts) rest h flat r = absurd (omega (arith, part_sorts p (value_of_kind sorts.«Type» n) ts h, ap sort_in e ∙ ap part_sort (outs-Choice m qs)))
+  choice_by f left lists p s cs m qs a b e es print (node (value_of_kind sorts.Attribute n) ts) rest h flat r = absurd (omega (arith, part_sorts p (value_of_kind sorts.Attribute n) ts h, ap sort_in e ∙ ap part_sort (outs-Choice m qs)))
+  choice_by f left lists p s cs m qs a b e es print (node q ts) rest h flat r = absurd (omega (arith, part_sorts p q ts h, ap sort_in e ∙ ap part_sort (outs-Choice m qs)))
+
+  pub choice_printed : (f : Formats) (left lists : ℕ) (p : Part D K A T) (s : Step) (cs : Choices) (m : ℕ) (qs : Vec (Part D K A T) Global) (a b : List ℕ) → 0 < lists → p ≡ part.Choice m qs → s ≡ choice_of cs
+      → ((ts : Pieces) (rest : List Chunk) → ShowsParts says types qs.items ts → AreFlat left ts → AreReadable (lists - 1) ts → AddsText a b rest (some_format_on (alternative cs m) (parts_on f ts) rest))
+      → PrintsPart says types f left lists p s a b
+  choice_printed f left zero p s cs m qs a b lt e es print = absurd (omega arith)
+  choice_printed f left (suc d) p s cs m qs a b lt e es print =
+      let eq : suc d - 1 ≡ d = omega arith in
+      choice_by f left d p s cs m qs a b e es (λ ts rest h k r. print ts rest h k (subst (λ n. AreReadable n ts) (sym eq) r))
 
   -- a list there is printed by its members
   list_by : (f : Formats) (left lists : ℕ) (p : Part D K A T) (s : Step) (member : Steps) (printed text : List ℕ) (ms : Vec (Vec (Part D K A T) Global) Global) (a b : List ℕ) → p ≡ part.List ms → s ≡ list_of member printed text

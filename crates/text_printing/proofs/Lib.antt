@@ -1,4 +1,3 @@
-pub mod FormatSteps
 pub mod Owed
 pub mod Leaves
 pub mod Written
@@ -12,3 +11,5 @@ pub mod OperationOwed
 pub mod EntitiesPrinted
 pub mod Read
 pub mod Walked
+pub mod Choices
+pub mod Quotes

@@ -17,10 +17,10 @@ use Rattle.text_printing.specs.declared.operations.Progress.{Progress}
 use Rattle.ir_print.specs.Formats.{Formats, Step, step_of, steps_of}
 use Rattle.ir_print.specs.Layout.{Chunk, spell, Before, an_id, a_word, Printer, gap_of_word, format_on, step_on, word_of, all_parts_on, regions_on, AreFlat}
 use Rattle.text_printing.specs.PartPrinted.{head_on, names_after, labels_after, entities_after, gapped_on, before_after, AreLeft, PartPrinted}
-use Rattle.ir_print.specs.Pieces.{value_of_kind, list, item, operands, successor, region, leaf, ValueTree, Pieces, Entities, no_entity, an_entity}
+use Rattle.ir_print.specs.Pieces.{value_of_kind, list, item, chosen, operands, successor, region, leaf, ValueTree, Pieces, Entities, no_entity, an_entity}
 use Rattle.text_printing.specs.Printing.{before_of, AddsText, AreReadable}
 use Rattle.ir_print.specs.Shown.{Saying, ShowsParts}
-use Rattle.text_printing.proofs.FormatSteps.{step_of-Literal}
+use Rattle.ir_print.proofs.FormatSteps.{step_of-Literal}
 use Rattle.text_printing.proofs.Owed.{wrote, drop_at}
 use Rattle.text_printing.proofs.ValuesOwed.{no_word, word_spelled}
 
@@ -31,6 +31,7 @@ parts_step : (f : Formats) (n : ℕ) (t : ValueTree) (ts : Pieces) (us ls : List
 parts_step f n (node (value_of_kind sort k) xs) ts us ls es = refl
 parts_step f n (node list xs) ts us ls es = refl
 parts_step f n (node item xs) ts us ls es = refl
+parts_step f n (node (chosen k) xs) ts us ls es = refl
 parts_step f n (node (operands k) xs) ts us ls es = refl
 parts_step f n (node (successor k) xs) ts us ls es = refl
 parts_step f n (node region xs) ts us ls no_entity = refl

@@ -17,7 +17,7 @@ use Rattle.text_printing.specs.declared.operations.Progress.{Progress}
 use Rattle.ir_print.specs.Formats.{Formats, Step}
 use Rattle.ir_print.specs.Layout.{Chunk, white, token, spell, Before, a_part, gap_of_part, piece_on, operands_on, edge_on, first_region_on, regions_on, names_on, Deeper, IsFlat, AreShallow}
 use Rattle.text_printing.specs.PartPrinted.{other_entities, gapped_on, before_after, AreLeft, IsPartPrinted, PartPrinted}
-use Rattle.ir_print.specs.Pieces.{value_of_kind, list, item, operands, successor, region, leaf, ValueTree, operation, a_region, block, entity, Entities, no_entity, an_entity}
+use Rattle.ir_print.specs.Pieces.{value_of_kind, list, item, chosen, operands, successor, region, leaf, ValueTree, operation, a_region, block, entity, Entities, no_entity, an_entity}
 use Rattle.text_dialect.specs.Seen.{SeenBlock, Seen}
 use Rattle.text_dialect.specs.Printed.{IsValueName, block_name, label_front, printed_names}
 use Rattle.text_printing.specs.Added.{AddsOperandNames, AddsEdge, AddsRegion, PrintsRegions}
@@ -152,6 +152,7 @@ module _ {D K A T : Type 0} (says : Saying K A T) (f : Formats) (s : Seen K A T)
       one (node (value_of_kind sort n) ts) us ls es rest h k r w = record { text = plain (node (value_of_kind sort n) ts) rest h k r; before_is = eb; are_left = same w }
       one (node list ts) us ls es rest h k r w = record { text = plain (node list ts) rest h k r; before_is = eb; are_left = same w }
       one (node item ts) us ls es rest h k r w = absurd h
+      one (node (chosen n) ts) us ls es rest h k r w = record { text = plain (node (chosen n) ts) rest h k r; before_is = eb; are_left = same w }
       one (node (leaf l) ts) us ls es rest h k r w = record { text = plain (node (leaf l) ts) rest h k r; before_is = eb; are_left = same w }
 
   -- no region is shallow enough where none is left

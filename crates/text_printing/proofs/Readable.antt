@@ -1,15 +1,15 @@
 -- What is said at the steps of a format can be read.
 use Rattle.std.proofs.Common.{◌≡◌, ℕ, suc, zero, Bool, true, false, List, [], ◌∷◌, refl, subst}
-use Rattle.std.specs.Prelude.{◌&&◌, Some, slice_get}
+use Rattle.std.specs.Prelude.{◌&&◌, Option, None, Some, slice_get}
 use Rattle.ir_names.specs.Tree.{LabelledTree, Trees, node, no_tree, a_tree}
 use Rattle.ir_print.specs.Formats as step
-use Rattle.ir_print.specs.Formats.{Formats, Kind, Step, Steps}
+use Rattle.ir_print.specs.Formats.{Formats, Kind, Step, Steps, Choices, no_choice, a_choice, alternative}
 use Rattle.ir_print.specs.Layout.{Deeper}
-use Rattle.ir_print.specs.Nested.{is_nested, are_nested, kinds_nested, is_nested_little}
-use Rattle.ir_print.specs.Pieces.{value_of_kind, list, item, operands, successor, region, leaf, ValueTree, Pieces}
+use Rattle.ir_print.specs.Nested.{is_nested, are_nested, are_choices_nested, kinds_nested, is_nested_little}
+use Rattle.ir_print.specs.Pieces.{value_of_kind, list, item, chosen, operands, successor, region, leaf, ValueTree, Pieces}
 use Rattle.text_printing.specs.Printing.{IsReadable, AreReadable}
-use Rattle.ir_print.specs.Shapes.{parts_in, IsListOf, IsSaidAt, AreSaidAt, AreMembersSaidAt, IsMemberSaidAt}
-use Rattle.ir_print.specs.Shown.{Saying, Shows, ShowsAll, Said, said_list, said_item}
+use Rattle.ir_print.specs.Shapes.{parts_in, IsListOf, IsKnownOf, IsChoiceOf, IsSaidAt, AreSaidAt, AreMembersSaidAt, IsMemberSaidAt}
+use Rattle.ir_print.specs.Shown.{Saying, Shows, ShowsAll, Said, said_list, said_item, said_choice}
 
 both : (a b : Bool) → (a && b) ≡ true → (a ≡ true) × (b ≡ true)
 both true b h = (refl, h)
@@ -32,6 +32,24 @@ parts_nested d (step.step step.a_region ss) h = (refl, parts_nested d ss h)
 parts_nested d (step.step step.symbol_name ss) h = (refl, parts_nested d ss h)
 parts_nested d (step.step (step.a_leaf sort) ss) h = (refl, parts_nested d ss h)
 parts_nested d (step.step (step.list_of member printed text) ss) h = let b = both (is_nested d (step.list_of member printed text)) (are_nested d ss) h in (b.0, parts_nested d ss b.1)
+parts_nested d (step.step (step.choice_of cs) ss) h = let b = both (is_nested d (step.choice_of cs)) (are_nested d ss) h in (b.0, parts_nested d ss b.1)
+
+-- a format of a choice has lists no deeper than all of them
+alternative_nested : (d : ℕ) (cs : Choices) (n : ℕ) (format : Steps) → are_choices_nested d cs ≡ true → alternative cs n ≡ Some format → are_nested d format ≡ true
+alternative_nested d no_choice n format h e = cc
+alternative_nested d (a_choice ss cs) zero format h e = let same : ss ≡ format = cc in subst (λ x. are_nested d x ≡ true) same (both (are_nested d ss) (are_choices_nested d cs) h).0
+alternative_nested d (a_choice ss cs) (suc n) format h e = alternative_nested d cs n format (both (are_nested d ss) (are_choices_nested d cs) h).1 e
+
+-- what a format of a choice says, one deeper
+readable_choice : {A : Type 0} (d : ℕ) (s : Step) (n : ℕ) (us : Trees (Said A)) (ts : Pieces) → is_nested d s ≡ true → IsChoiceOf s n (λ ss. AreSaidAt ss us)
+    → ((e : ℕ) (ss : List Step) → AllNested e ss → AreSaidAt ss us → AreReadable e ts) → Deeper d (λ e. AreReadable e ts)
+readable_choice zero (step.choice_of cs) n us ts k h parts = absurd (cc)
+readable_choice (suc d) (step.choice_of cs) n us ts k h parts = known (alternative cs n) refl h
+  where
+    known : (o : Option Steps) → alternative cs n ≡ o → IsKnownOf o (λ ss. AreSaidAt ss us) → AreReadable d ts
+    known None e m = absurd m
+    known (Some format) e m = parts d (parts_in format) (parts_nested d format (alternative_nested d cs n format k e)) m
+readable_choice d _ n us ts k h parts = absurd h
 
 -- the members of a list, one list deeper
 readable_list : {A : Type 0} (d : ℕ) (s : Step) (us : Trees (Said A)) (ts : Pieces) → is_nested d s ≡ true → IsListOf s (λ ss. AreMembersSaidAt ss us)
@@ -46,6 +64,7 @@ module _ {K A T : Type 0} (says : Saying K A T) (types : List T) where
     readable_one d s u (node (value_of_kind sort n) ts) k h x = tt
     readable_one d s u (node list ts) k h x = readable_list d s x.0 ts k (subst (λ y. IsSaidAt s y) x.1 h) (λ e ss n m. readable_members e ss x.0 ts n m x.2)
     readable_one d s u (node item ts) k h x = let o : IsSaidAt s (node said_item x.0) = subst (λ y. IsSaidAt s y) x.1 h in absurd o
+    readable_one d s u (node (chosen n) ts) k h x = readable_choice d s n x.0 ts k (subst (λ y. IsSaidAt s y) x.1 h) (λ e ss nested m. readable_parts e ss x.0 ts nested m x.2)
     readable_one d s u (node (operands n) ts) k h x = tt
     readable_one d s u (node (successor n) ts) k h x = tt
     readable_one d s u (node region ts) k h x = tt
@@ -67,6 +86,7 @@ module _ {K A T : Type 0} (says : Saying K A T) (types : List T) where
     readable_member d ss u (node (value_of_kind sort n) ts) k h x = tt
     readable_member d ss u (node list ts) k h x = let o : IsMemberSaidAt ss (node said_list x.0) = subst (λ y. IsMemberSaidAt ss y) x.1 h in absurd o
     readable_member d ss u (node item ts) k h x = readable_parts d ss x.0 ts k (subst (λ y. IsMemberSaidAt ss y) x.1 h) x.2
+    readable_member d ss u (node (chosen n) ts) k h x = let o : IsMemberSaidAt ss (node (said_choice n) x.0) = subst (λ y. IsMemberSaidAt ss y) x.1 h in absurd o
     readable_member d ss u (node (operands n) ts) k h x = tt
     readable_member d ss u (node (successor n) ts) k h x = tt
     readable_member d ss u (node region ts) k h x = tt

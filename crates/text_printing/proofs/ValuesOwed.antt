@@ -7,15 +7,15 @@ use Rattle.std.proofs.Math.ListN.{drop_of_length-le}
 use Rattle.ir_names.specs.Tree.{no_tree, a_tree}
 use Rattle.ir_print.specs.Formats as step
 use Rattle.ir_print.specs.Formats.{Formats, Step, Steps, step_of, steps_of, step_by, list_of}
-use Rattle.ir_print.specs.Layout.{Chunk, white, spell, Before, a_word, a_part, Printer, piece_on, parts_on, format_on, word_of, step_on, gap_of_word, gap_of_part, member_of, separator_of, IsFlat, AreFlat}
+use Rattle.ir_print.specs.Layout.{Chunk, white, spell, Before, a_word, a_part, Printer, piece_on, parts_on, format_on, word_of, step_on, gap_of_word, gap_of_part, alternative_of, member_of, separator_of, IsFlat, AreFlat}
 use Rattle.ir_print.specs.Pieces.{ValueTree, Pieces}
 use Rattle.text_printing.specs.Printing.{AddsText, IsReadable, AreReadable}
 use Rattle.ir_print.specs.Shown.{Saying, ShowsPart, ShowsParts}
 use Rattle.ir_print.specs.declared.format.Directive.{Directive, Directive-F, fold-Directive, map-Directive, fold_out-Directive, out-Directive, roll-Directive, roll-out-Directive}
 use Rattle.ir_print.specs.declared.format.Directive as directive
-use Rattle.ir_print.specs.declared.format.Directive.TheVariants.{rolls-Literal, rolls-List}
+use Rattle.ir_print.specs.declared.format.Directive.TheVariants.{rolls-Literal, rolls-List, rolls-Choice}
 use Rattle.ir_print.specs.declared.format.Part.{Part}
-use Rattle.text_printing.proofs.FormatSteps.{step_of-Literal}
+use Rattle.ir_print.proofs.FormatSteps.{step_of-Literal}
 use Rattle.text_printing.proofs.Owed.{wrote, drop_at}
 
 -- ---- steps that are no words, and steps that are no lists
@@ -38,6 +38,14 @@ no_list_by _ h = record { separator = refl; member = refl }
 
 pub no_list : (d : Directive) → ((member : Bor (List Directive)) (text : Bor (List ℕ)) → d ≡ directive.List member text → ⊥) → IsNoList (step_of d)
 no_list d h = subst IsNoList (sym (fold_out-Directive Step step_by d)) (no_list_by (out-Directive d) (λ member text e. h member text (sym (roll-out-Directive d) ∙ ap roll-Directive e ∙ rolls-List member text)))
+
+-- a step that is no choice has no formats to choose from
+no_choice_by : (l : Directive-F Directive) → ((alternatives : Bor (List (Bor (List Directive)))) → l ≡ Directive-F.Choice alternatives → ⊥) → (n : ℕ) → alternative_of (step_by (map-Directive Directive Step step_of l)) n ≡ None
+no_choice_by (Directive-F.Choice alternatives) h n = absurd (h alternatives refl)
+no_choice_by _ h n = refl
+
+pub no_choice : (d : Directive) → ((alternatives : Bor (List (Bor (List Directive)))) → d ≡ directive.Choice alternatives → ⊥) → (n : ℕ) → alternative_of (step_of d) n ≡ None
+no_choice d h n = ap (λ s. alternative_of s n) (fold_out-Directive Step step_by d) ∙ no_choice_by (out-Directive d) (λ alternatives e. h alternatives (sym (roll-out-Directive d) ∙ ap roll-Directive e ∙ rolls-Choice alternatives)) n
 
 -- ---- the steps of a format, one after the other
 

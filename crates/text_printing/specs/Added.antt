@@ -10,8 +10,8 @@ use Rattle.ir_program.specs.declared.handles.Region.{Region}
 use Rattle.ir_program.specs.declared.handles.BasicBlock.{BasicBlock}
 use Rattle.ir_program.specs.declared.handles.Value.{Value}
 use Rattle.ir_print.specs.declared.format.Part.{Part}
-use Rattle.ir_print.specs.Formats.{Formats, Step, Steps, list_of}
-use Rattle.ir_print.specs.Layout.{Chunk, token, Before, type_on, piece_on, parts_on, format_on, members_on, names_on, edge_on, results_on, arguments_on, block_head_on, operation_on, region_on, block_on, IsFlat, AreFlat, AreFlatArguments, IsShallow, AreShallow}
+use Rattle.ir_print.specs.Formats.{Formats, Step, Steps, Choices, alternative, list_of}
+use Rattle.ir_print.specs.Layout.{Chunk, token, Before, type_on, piece_on, parts_on, format_on, some_format_on, members_on, names_on, edge_on, results_on, arguments_on, block_head_on, operation_on, region_on, block_on, IsFlat, AreFlat, AreFlatArguments, IsShallow, AreShallow}
 use Rattle.ir_print.specs.Pieces.{ValueTree, Pieces, EntityHead, block, Entity, entity, Entities}
 use Rattle.ir_print.specs.Shown.{Saying, Pairs, ShowsType, ShowsAttribute, ShowsPart, ShowsParts, ShowsMembers}
 use Rattle.text_dialect.specs.Seen.{SeenBlock, Seen}
@@ -28,7 +28,7 @@ AddsOperandNames vs old new =
 abbrev pub HasName : {K A T : Type 0} → Saying K A T → List T → TypedValue → List ℕ × ValueTree → Type 0
 HasName says types v r = IsValueName v.value r.0 × ShowsType says types v.ty r.1
 
--- In each of these at most `left` types and attributes stand in one another, and at most `lists` lists.
+-- In each of these at most `left` types and attributes stand in one another, and at most `lists` lists and choices.
 module _ {K A T : Type 0} (says : Saying K A T) (f : Formats) (types : List T) where
   -- the type under a handle was written
   abbrev pub AddsType : (left : ℕ) → TypeHandle → (old new : List ℕ) → Type 0
@@ -53,6 +53,12 @@ module _ {K A T : Type 0} (says : Saying K A T) (f : Formats) (types : List T) w
     AddsPart s part old new =
         (t : ValueTree) (rest : List Chunk) → ShowsPart says types part t → IsFlat left t → IsReadable lists t →
         AddsText old new rest (piece_on f t s rest)
+
+    -- what the format with a number says, of several, was written; nothing where there is none
+    abbrev pub AddsChoice : Choices → ℕ → List (Part D K A T) → (old new : List ℕ) → Type 0
+    AddsChoice cs n parts old new =
+        (ts : Pieces) (rest : List Chunk) → ShowsParts says types parts ts → AreFlat left ts → AreReadable lists ts →
+        AddsText old new rest (some_format_on (alternative cs n) (parts_on f ts) rest)
 
     -- the members of a list were written, with a word between two
     abbrev pub AddsMembers : (member : Steps) (separator : List ℕ) → List (Vec (Part D K A T) Global) → (old new : List ℕ) →

@@ -10,10 +10,9 @@ use Rattle.ir_rereading.specs.Texts.{Says}
 abbrev pub IsTextOfModule : Language → Entity ℕ → List ℕ → Type 0
 IsTextOfModule l tree text = (front : List ℕ) × IsLayoutOf l.formats tree front × (text ≡ front ++ 10 ∷ [])
 
--- the bytes are characters as they are, and say a tree that is the same module
+-- the bytes are UTF-8, and their characters say a tree that is the same module
 pub record IsReadAgain (l : Language) (tree : Entity ℕ) (text : List ℕ) : Type 0 where
   pub utf8 : IsUtf8 text
-  pub characters : chars text ≡ text
   pub again : Entity ℕ
-  pub says : Says l text again
+  pub says : Says l (chars text) again
   pub same : IsSameModule again tree

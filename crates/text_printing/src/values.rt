@@ -1,8 +1,8 @@
 //! The texts of types and attributes.
 ghost use Rattle.std.specs.Prelude.{OnOk};
 ghost use Rattle.std.specs.String.{string_bytes};
-ghost use Rattle.ir_print.specs.Formats.{step_of, steps_of};
-ghost use Rattle.text_printing.specs.Added.{AddsType, AddsAttribute, AddsParts, AddsPart, AddsMembers};
+ghost use Rattle.ir_print.specs.Formats.{choices_of, step_of, steps_of};
+ghost use Rattle.text_printing.specs.Added.{AddsType, AddsAttribute, AddsParts, AddsPart, AddsChoice, AddsMembers};
 ghost use Rattle.text_printing.specs.Printing.{before_of};
 
 use crate::words::{Before, print_gap, print_leaf, print_literal};
@@ -12,7 +12,7 @@ use ir_print::{Directive, Part};
 use std::alloc::{AllocError, Global};
 use text_dialect::TextDialect;
 
-/// Lists stand in one another at most so deep in a format.
+/// Lists and choices stand in one another at most so deep in a format.
 pub(crate) const LISTS: u32 = 64;
 
 /// A type, where `left` types and attributes may stand in one another from here on.
@@ -79,7 +79,8 @@ fn print_attribute<D: TextDialect>(
     )
 }
 
-/// The parts of a type or an attribute, or of a member of a list in one; `lists` lists may stand in one another from here on.
+/// The parts of a type or an attribute, or of a member of a list or a choice in one; `lists` lists and choices may stand in one
+/// another from here on.
 #[cycle(values)]
 fn print_parts<D: TextDialect>(
     alloc: Global,
@@ -138,11 +139,57 @@ pub(crate) fn print_part<D: TextDialect>(
                 }
             }
         }
+        Part::Choice(number, parts) => {
+            if let Directive::Choice(alternatives) = directive {
+                if lists > 0 {
+                    print_choice(
+                        alloc,
+                        ctx,
+                        out,
+                        alternatives,
+                        *number,
+                        parts,
+                        left,
+                        lists - 1,
+                    )?;
+                }
+            }
+        }
         Part::Operands(_) => {}
         Part::Successor(_) => {}
         Part::Region => {}
     }
     Ok(())
+}
+
+/// What the format with a number says, of those of a choice.
+#[cycle(values)]
+fn print_choice<D: TextDialect>(
+    alloc: Global,
+    ctx: &Context<D>,
+    out: &mut String,
+    alternatives: &[&[Directive]],
+    number: usize,
+    parts: &[Part<D>],
+    left: u32,
+    lists: u32,
+) -> Result<(), AllocError>
+    ensures { OnOk result (AddsChoice D.says D.formats ctx.now.types.keys left lists
+        (choices_of alternatives.now) number parts.now (string_bytes out.old) (string_bytes out.new)) }
+{
+    match alternatives.get(number) {
+        Some(format) => print_parts(
+            alloc,
+            ctx,
+            out,
+            *format,
+            parts,
+            Before::Literal,
+            left,
+            lists,
+        ),
+        None => Ok(()),
+    }
 }
 
 /// The members of a list, with the separator between two.

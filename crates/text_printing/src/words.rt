@@ -1,10 +1,10 @@
 //! The words of which texts are made: names, numbers, and what stands between two parts.
-ghost use Rattle.std.specs.Prelude.{◌≡◌, ◌++◌, OnOk};
+ghost use Rattle.std.specs.Prelude.{◌≡◌, ◌++◌, ◌∷◌, [], chars, codes, encode_utf8_all, OnOk};
 ghost use Rattle.std.specs.String.{string_bytes};
 ghost use Rattle.ir_print.specs.Formats.{step_of};
-ghost use Rattle.ir_print.specs.Layout.{line, gap_of_word, gap_of_part};
+ghost use Rattle.ir_print.specs.Layout.{escaped, in_quotes, line, gap_of_word, gap_of_part};
 ghost use Rattle.text_dialect.specs.Printed.{value_name};
-ghost use Rattle.text_printing.specs.Printing.{before_of, sign_of, AddsLeaf, AddsNumber, AddsWidth};
+ghost use Rattle.text_printing.specs.Printing.{before_of, sign_of, AddsLeaf, AddsNumber, AddsUnsigned, AddsWidth};
 
 use ir_names::Signedness;
 use ir_print::{Directive, LeafValue, Number};
@@ -63,6 +63,16 @@ fn print_number(out: &mut String, number: Option<Number>) -> Result<(), AllocErr
     print_digits(out, number.magnitude)
 }
 
+/// A number without a sign, which 64 bits hold.
+fn print_unsigned(out: &mut String, number: Option<u64>) -> Result<(), AllocError>
+    ensures { OnOk result (AddsUnsigned number (string_bytes out.old) (string_bytes out.new)) }
+{
+    let Some(number) = number else {
+        return Ok(());
+    };
+    print_digits(out, number)
+}
+
 /// The width of an integer: `i`, `si` or `ui`, and the number of bits.
 fn print_width(
     out: &mut String,
@@ -81,6 +91,34 @@ fn print_width(
     };
     out.push_str(sign)?;
     print_digits(out, width)
+}
+
+/// A character as it stands in quotes: `"` and `\` have a `\` before them.
+fn print_escaped(out: &mut String, c: char) -> Result<(), AllocError>
+    ensures { OnOk result (string_bytes out.new ≡ string_bytes out.old ++ encode_utf8_all (escaped (c ∷ []))) }
+{
+    if c == '"' || c == '\\' {
+        out.push('\\')?;
+    }
+    out.push(c)
+}
+
+/// Writes a `"`.
+fn print_quote(out: &mut String) -> Result<(), AllocError>
+    ensures { OnOk result (string_bytes out.new ≡ string_bytes out.old ++ codes "\"") }
+{
+    out.push_str("\"")
+}
+
+/// A text in quotes.
+fn print_text(out: &mut String, text: &str) -> Result<(), AllocError>
+    ensures { OnOk result (string_bytes out.new ≡ string_bytes out.old ++ encode_utf8_all (in_quotes (chars text.now))) }
+{
+    print_quote(out)?;
+    for c in text.chars() {
+        print_escaped(out, c)?;
+    }
+    print_quote(out)
 }
 
 /// A literal, set off from an id before it.
@@ -132,6 +170,8 @@ pub(crate) fn print_leaf(
             Ok(())
         }
         LeafValue::Number(number) => print_number(out, *number),
+        LeafValue::Digits(number) => print_unsigned(out, *number),
         LeafValue::Width(signedness, width) => print_width(out, *signedness, *width),
+        LeafValue::Text(text) => print_text(out, text.as_str()),
     }
 }

@@ -89,11 +89,11 @@ module _ {K A T : Type 0} (l : Language) (says : Saying K A T) (s : Seen K A T) 
       subst (IsLayoutOf l.formats tree) (sym (is_printed print.printed print.prints print.shallow)) print.laid_out
 
   module _ (can : CanPrint l) where
-    -- Its bytes are its characters.
-    pub printed_bytes : IsUtf8 (text ++ 10 ∷ []) × (chars (text ++ 10 ∷ []) ≡ text ++ 10 ∷ [])
+    -- Its bytes are UTF-8.
+    pub printed_bytes : IsUtf8 (text ++ 10 ∷ [])
     printed_bytes = text_bytes l can tree text closed printed_layout
 
     -- It is read again as the same module.
     pub printed_again : IsNumbered tree → (g : Grammar) → IsGrammarOf l.formats g → length (text ++ 10 ∷ []) < 2 ^ 63
-        → (again : Entity ℕ) × Says l (text ++ 10 ∷ []) again × IsSameModule again tree
+        → (again : Entity ℕ) × Says l (chars (text ++ 10 ∷ [])) again × IsSameModule again tree
     printed_again numbered g known few = text_again l can tree text closed printed_layout numbered g known few

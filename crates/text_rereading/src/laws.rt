@@ -50,19 +50,19 @@ pub fn printed_trees_are_layouts<D: TextDialect>()
         → IsPrinted D.formats D.says s root text → IsLayoutOf l.formats tree text }
 {}
 
-/// What is printed of such an operation, with a line feed behind it, is its characters as bytes, and is read again, as
-/// the same tree but for its labels.
+/// What is printed of such an operation, with a line feed behind it, is UTF-8, and is read again, as the same tree but
+/// for its labels.
 pub fn printed_modules_are_read_again<D: TextDialect>()
     ensures bytes { (l : Language) → CanPrint l → l.formats ≡ D.formats → (s : Seen D.OpKind D.Attr D.TypeKey)
         → HasOwnPlaces s → (numbering : Numbering) (root : Ptr Operation) (tree : Entity ℕ) (text : List ℕ)
         → StandsForTexts D.says (Named numbering) s root tree → AreSmallInside s root → IsClosedTree l tree
         → IsPrinted D.formats D.says s root text
-        → IsUtf8 (text ++ 10 ∷ []) × (chars (text ++ 10 ∷ []) ≡ text ++ 10 ∷ []) }
+        → IsUtf8 (text ++ 10 ∷ []) }
     ensures read { (l : Language) → CanPrint l → l.formats ≡ D.formats → (g : Grammar) → IsGrammarOf l.formats g
         → (s : Seen D.OpKind D.Attr D.TypeKey) → HasOwnPlaces s
         → (numbering : Numbering) (root : Ptr Operation) (tree : Entity ℕ) (text : List ℕ)
         → StandsForTexts D.says (Named numbering) s root tree → AreSmallInside s root → IsClosedTree l tree
         → IsNumbered tree
         → IsPrinted D.formats D.says s root text → length (text ++ 10 ∷ []) < 2 ^ 63
-        → (again : Entity ℕ) × Says l (text ++ 10 ∷ []) again × IsSameModule again tree }
+        → (again : Entity ℕ) × Says l (chars (text ++ 10 ∷ [])) again × IsSameModule again tree }
 {}

@@ -4,22 +4,12 @@ use Rattle.ir_names.specs.Tree.{node, no_tree, a_tree}
 use Rattle.ir_print.specs.Formats as step
 use Rattle.ir_print.specs.Formats.{Formats, Kind, Step, Steps, no_steps, kinds_of}
 use Rattle.ir_print.specs.Layout as layout
-use Rattle.ir_print.specs.Layout.{Chunk, Before, an_id, a_word, a_part, gap_of_word, gap_of_part, line, word_of, member_of, spell, leaf_text, Printer}
-use Rattle.ir_print.specs.Pieces.{value_of_kind, list, item, operands, successor, region, leaf, ValueTree, Pieces, EntityHead, operation, a_region, block, Entity, entity, Entities, no_entity, an_entity}
-use Rattle.ir_print.specs.Shapes.{sort_of}
-use Rattle.ir_print.specs.declared.format.LeafSort.{LeafSort}
+use Rattle.ir_print.specs.Layout.{Chunk, Before, an_id, a_word, a_part, gap_of_word, gap_of_part, line, word_of, member_of, alternative_of, Printer}
+use Rattle.ir_print.specs.Pieces.{value_of_kind, list, item, chosen, operands, successor, region, Leaf, leaf, ValueTree, Pieces, EntityHead, operation, a_region, block, Entity, entity, Entities, no_entity, an_entity}
 use Rattle.ir_grammar.specs.declared.grammar.Action.{Action}
 use Rattle.ir_grammar.specs.declared.grammar.Action.TheVariants as act
 use Rattle.ir_print.specs.declared.format.ValueSort.TheVariants as sorts
-use Rattle.ir_rereading.proofs.layouts.Marks.{Mark, white, token, word, did, chunks, characters, Marker, part_on, step_on, format_on, kind_on, leaf_on, separator_of, some_on, more_members_on, members_on, piece_on, parts_on, more_names_on, names_on, results_on, operands_on, first_region_on, edge_on, all_parts_on, operation_head_on, argument_on, more_arguments_on, arguments_on, block_head_on, operation_on, regions_on, region_on, blocks_on, block_on, operations_on, more_operations_on, marks}
-
--- the characters of marks are those of their chunks
-spell_chunks : (ms : List Mark) → spell (chunks ms) ≡ characters ms
-spell_chunks [] = refl
-spell_chunks (white cs ∷ ms) = ap (λ z. cs ++ z) (spell_chunks ms)
-spell_chunks (token cs ∷ ms) = ap (λ z. cs ++ z) (spell_chunks ms)
-spell_chunks (word printed text ∷ ms) = ap (λ z. printed ++ z) (spell_chunks ms)
-spell_chunks (did a ∷ ms) = spell_chunks ms
+use Rattle.ir_rereading.proofs.layouts.Marks.{Mark, token, did, chunks, Marker, part_on, step_on, format_on, some_format_on, kind_on, leaf_on, separator_of, some_on, more_members_on, members_on, piece_on, parts_on, more_names_on, names_on, results_on, operands_on, first_region_on, edge_on, all_parts_on, operation_head_on, argument_on, more_arguments_on, arguments_on, block_head_on, operation_on, regions_on, region_on, blocks_on, block_on, operations_on, more_operations_on, marks}
 
 -- a part with what reading it does has the chunks of the part
 abbrev IsAlike : Option Marker → Option Printer → Type 0
@@ -66,14 +56,19 @@ format_alike before no_steps qs ps rest h = refl
 format_alike before (step.step s ss) qs ps rest h =
     step_alike (word_of s) before s qs ps (λ b q. format_on b ss q rest) (λ b p. layout.format_on b ss p (chunks rest)) h (λ b q p g. format_alike b ss q p rest g)
 
+some_format_alike : (o : Option Steps) (qs : List (Option Marker)) (ps : List (Option Printer)) (rest : List Mark) → AreAlike qs ps
+    → chunks (some_format_on o qs rest) ≡ layout.some_format_on o ps (chunks rest)
+some_format_alike None qs ps rest h = refl
+some_format_alike (Some ss) qs ps rest h = format_alike a_word ss qs ps rest h
+
 kind_alike : (found : Option Kind) (begins ends : Action) (qs : List (Option Marker)) (ps : List (Option Printer)) (rest : List Mark) → AreAlike qs ps
     → chunks (kind_on found begins ends qs rest) ≡ layout.kind_on found ps (chunks rest)
 kind_alike None begins ends qs ps rest h = refl
 kind_alike (Some k) begins ends qs ps rest h = ap (λ z. layout.token k.id ∷ z) (format_alike an_id k.format qs ps (did ends ∷ rest) h)
 
-leaf_alike : (s : Step) (sort : LeafSort) (cs : List ℕ) (rest : List Mark) → chunks (leaf_on s sort cs rest) ≡ layout.leaf_on s cs (chunks rest)
-leaf_alike step.symbol_name sort cs rest = refl
-leaf_alike _ sort cs rest = refl
+leaf_alike : (s : Step) (x : Leaf) (rest : List Mark) → chunks (leaf_on s x rest) ≡ layout.leaf_on s (layout.leaf_chunk x) (chunks rest)
+leaf_alike step.symbol_name x rest = refl
+leaf_alike _ x rest = refl
 
 separator_alike : (s : Step) (ms : List Mark) → chunks (separator_of s ∷ ms) ≡ layout.separator_of s ∷ chunks ms
 separator_alike (step.list_of member printed text) ms = refl
@@ -145,10 +140,11 @@ module _ (f : Formats) where
     piece_alike (node (value_of_kind sort n) ts) s rest = kind_alike (slice_get (kinds_of f sort) n) (act.Begin sort n) (act.End sort) _ _ rest (parts_alike ts)
     piece_alike (node list ts) s rest = members_alike s (parts_on f ts) (layout.parts_on f ts) (did act.EndList ∷ rest) (parts_alike ts)
     piece_alike (node item ts) s rest = format_alike a_word (member_of s) (parts_on f ts) (layout.parts_on f ts) (did act.EndItem ∷ rest) (parts_alike ts)
+    piece_alike (node (chosen n) ts) s rest = some_format_alike (alternative_of s n) (parts_on f ts) (layout.parts_on f ts) (did act.EndChoice ∷ rest) (parts_alike ts)
     piece_alike (node (operands n) ts) s rest = refl
     piece_alike (node (successor n) ts) s rest = refl
     piece_alike (node region ts) s rest = refl
-    piece_alike (node (leaf x) ts) s rest = leaf_alike s (sort_of x) (leaf_text x) rest
+    piece_alike (node (leaf x) ts) s rest = leaf_alike s x rest
 
     parts_alike : (ts : Pieces) → AreAlike (parts_on f ts) (layout.parts_on f ts)
     parts_alike no_tree = tt
@@ -218,7 +214,3 @@ module _ (f : Formats) where
 -- The chunks among the marks of a layout are the layout's.
 pub layout_chunks : (f : Formats) (t : Entity (List ℕ)) → chunks (marks f t) ≡ layout.operation_on f 0 t []
 layout_chunks f t = operation_alike f t 0 []
-
--- The characters of a layout are those of its marks.
-pub layout_characters : (f : Formats) (t : Entity (List ℕ)) → spell (layout.operation_on f 0 t []) ≡ characters (marks f t)
-layout_characters f t = ap spell (sym (layout_chunks f t)) ∙ spell_chunks (marks f t)

@@ -232,6 +232,7 @@ ends_depth act.BeginOperands x d h = let e : act.EndOperands ≡ x = cc in subst
 ends_depth act.BeginSuccessor x d h = let e : act.EndSuccessor ≡ x = cc in subst (λ z. (opens z ≡ false) × (depth_at d z ≡ d)) e (refl, refl)
 ends_depth act.BeginList x d h = let e : act.EndList ≡ x = cc in subst (λ z. (opens z ≡ false) × (depth_at d z ≡ d)) e (refl, refl)
 ends_depth act.BeginItem x d h = let e : act.EndItem ≡ x = cc in subst (λ z. (opens z ≡ false) × (depth_at d z ≡ d)) e (refl, refl)
+ends_depth (act.BeginChoice n) x d h = let e : act.EndChoice ≡ x = cc in subst (λ z. (opens z ≡ false) × (depth_at d z ≡ d)) e (refl, refl)
 ends_depth _ x d h = cc
 
 alone_depth : (a : Action) (d : ℕ) → end_of a ≡ None → is_end a ≡ false → depth_at d a ≡ d

@@ -1,14 +1,15 @@
 -- The numbers that decimal digits write are read again, and so are all leaves.
-use Rattle.std.proofs.Common.{◌≡◌, ℕ, ◌+◌, ◌-◌, ◌*◌, ◌%◌, ◌<◌, ◌≤◌, ◌^◌, ◌==◌, List, [], ◌∷◌, ◌++◌, Bool, true, false, if◌then◌else◌, arith, refl, ap, ◌∙◌}
+use Rattle.std.proofs.Common.{◌≡◌, ℕ, ◌+◌, ◌-◌, ◌*◌, ◌%◌, ◌<◌, ◌≤◌, ◌^◌, ◌==◌, List, [], ◌∷◌, ◌++◌, Bool, true, false, ◌||◌, if◌then◌else◌, arith, refl, ap, sym, ◌∙◌}
 use Rattle.std.proofs.lemmas.Fmt.{decimal_by_steps}
 use Rattle.std.proofs.lemmas.Bool.{eqb-true}
 use Rattle.std.specs.Fmt.{decimal}
 use Rattle.ir_names.specs.declared.kinds.Signedness.{Signedness}
 use Rattle.ir_names.specs.declared.kinds.Signedness.TheVariants.{Signless, Signed, Unsigned}
-use Rattle.ir_print.specs.Layout.{width_text, number_text, leaf_text}
-use Rattle.ir_print.specs.Pieces.{Leaf, name, number, width}
+use Rattle.ir_print.specs.Layout.{width_text, number_text, escaped, leaf_text}
+use Rattle.ir_print.specs.Pieces.{Leaf, name, number, unsigned, width, quoted}
 use Rattle.ir_print.specs.Shapes.{sort_of, IsInRange}
-use Rattle.ir_forest.specs.Meaning.{digits_from, digits, number_in, width_in, leaf_in}
+use Rattle.ir_formats.proofs.Booleans.{neither_holds}
+use Rattle.ir_forest.specs.Meaning.{digits_from, digits, number_in, width_in, unescaped, leaf_in}
 
 digits_append : (xs ys : List ℕ) (v : ℕ) → digits_from v (xs ++ ys) ≡ digits_from (digits_from v xs) ys
 digits_append [] ys v = refl
@@ -52,8 +53,21 @@ width_again Signless n h = ap (width Signless) (decimal_is n (omega (arith, h)))
 width_again Signed n h = ap (width Signed) (decimal_is n (omega (arith, h))).0
 width_again Unsigned n h = ap (width Unsigned) (decimal_is n (omega (arith, h))).0
 
+-- what is escaped is read as it was
+unescaped_again : (cs : List ℕ) → unescaped (escaped cs ++ 34 ∷ []) ≡ cs
+unescaped_again [] = refl
+unescaped_again (c ∷ cs) = go (c == 34 || c == 92) (c == 92) (c == 34) refl refl refl (unescaped_again cs)
+  where
+    go : (b d e : Bool) → (c == 34 || c == 92) ≡ b → (c == 92) ≡ d → (c == 34) ≡ e → unescaped (escaped cs ++ 34 ∷ []) ≡ cs → unescaped ((if b then 92 ∷ c ∷ escaped cs else c ∷ escaped cs) ++ 34 ∷ []) ≡ c ∷ cs
+    go true d e special back front h = ap (λ z. c ∷ z) h
+    go false true e special back front h = let wrong : true ≡ false = (sym back ∙ (neither_holds (c == 34) (c == 92) special).1) in cc
+    go false false true special back front h = let wrong : true ≡ false = (sym front ∙ (neither_holds (c == 34) (c == 92) special).0) in cc
+    go false false false special back front h = rw (back, front) (ap (λ z. c ∷ z) h)
+
 -- what a leaf is spelled as says the leaf
 pub leaf_again : (x : Leaf) → IsInRange x → leaf_in (sort_of x) (leaf_text x) ≡ x
 leaf_again (name cs) h = refl
 leaf_again (number negative magnitude) h = number_again negative magnitude h
+leaf_again (unsigned magnitude) h = ap (λ n. unsigned n) (decimal_is magnitude h).0
 leaf_again (width sign bits) h = width_again sign bits h
+leaf_again (quoted cs) h = ap (λ z. quoted z) (unescaped_again cs)

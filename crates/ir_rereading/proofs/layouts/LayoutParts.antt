@@ -4,8 +4,8 @@ use Rattle.std.proofs.lemmas.List.{append_assoc, append-nil}
 use Rattle.ir_names.specs.Tree.{Trees, node, no_tree, a_tree, join}
 use Rattle.ir_print.specs.Formats as step
 use Rattle.ir_print.specs.Formats.{Formats, Kind, Steps, no_steps}
-use Rattle.ir_print.specs.Layout.{Before, an_id, a_word, a_part, gap_of_word, gap_of_part, AreFlat, AreShallow}
-use Rattle.ir_print.specs.Pieces.{operands, ValueTree, Pieces, Values, Entities, no_entity, an_entity}
+use Rattle.ir_print.specs.Layout.{Before, an_id, a_word, a_part, gap_of_word, gap_of_part, leaf_text, AreFlat, AreShallow}
+use Rattle.ir_print.specs.Pieces.{operands, Leaf, ValueTree, Pieces, Values, Entities, no_entity, an_entity}
 use Rattle.ir_print.specs.Shapes.{parts_in}
 use Rattle.ir_grammar.specs.declared.grammar.Action.{Action}
 use Rattle.ir_grammar.specs.declared.grammar.Action.TheVariants as act
@@ -15,7 +15,7 @@ use Rattle.ir_forest.specs.Meaning.{pieces_in, operands_in, successors_in, regio
 use Rattle.ir_grammar.specs.Reading.{opens, depth_at}
 use Rattle.ir_forest.specs.ValueFaults.{refused}
 use Rattle.ir_forest.proofs.BuiltTrees.{join_assoc, deeds_join}
-use Rattle.ir_rereading.proofs.layouts.Marks.{Mark, white, token, word, did, events, Marker, part_on, format_on, kind_on}
+use Rattle.ir_rereading.proofs.layouts.Marks.{Mark, white, token, word, one_leaf, did, events, Marker, part_on, format_on, kind_on}
 
 -- ---- entities, one after the other
 
@@ -64,6 +64,7 @@ HaveTexts text k [] = Unit {0}
 HaveTexts text k (white cs ∷ ms) = HaveTexts text k ms
 HaveTexts text k (token cs ∷ ms) = (text k ≡ cs) × HaveTexts text (k + 1) ms
 HaveTexts text k (word printed cs ∷ ms) = (text k ≡ cs) × HaveTexts text (k + 1) ms
+HaveTexts text k (one_leaf x ∷ ms) = (text k ≡ leaf_text x) × HaveTexts text (k + 1) ms
 HaveTexts text k (did a ∷ ms) = HaveTexts text k ms
 
 -- Reading marks, up to the rest, gives trees that are so.
@@ -102,6 +103,9 @@ module _ (text : ℕ → List ℕ) where
 
   pub taken : {P : Trees ActionSpan → Type 0} (k : ℕ) (ms rest : List Mark) (cs : List ℕ) → Gives text P (k + 1) ms rest → Gives text P k (token cs ∷ ms) rest
   taken k ms rest cs g = record { next = g.next; trees = g.trees; done = g.done; texts = g.texts; is = g.is }
+
+  pub leaf_taken : {P : Trees ActionSpan → Type 0} (k : ℕ) (ms rest : List Mark) (x : Leaf) → Gives text P (k + 1) ms rest → Gives text P k (one_leaf x ∷ ms) rest
+  leaf_taken k ms rest x g = record { next = g.next; trees = g.trees; done = g.done; texts = g.texts; is = g.is }
 
   pub worded : {P : Trees ActionSpan → Type 0} (k : ℕ) (ms rest : List Mark) (printed cs : List ℕ) → Gives text P (k + 1) ms rest → Gives text P k (word printed cs ∷ ms) rest
   worded k ms rest printed cs g = record { next = g.next; trees = g.trees; done = g.done; texts = g.texts; is = g.is }

@@ -2,9 +2,9 @@
 use Rattle.std.proofs.Common.{◌≡◌, ℕ, List, [], ◌∷◌, ◌++◌, true, false, map, refl, ap, sym, subst, ◌∙◌}
 use Rattle.ir_names.specs.Tree.{Trees, node, no_tree, a_tree, count}
 use Rattle.ir_print.specs.Formats as step
-use Rattle.ir_print.specs.Formats.{Formats}
-use Rattle.ir_print.specs.Pieces.{value_of_kind, list, item, operands, successor, region, leaf, ValueTree, Pieces, Values, canonical_value, operation, a_region, block, Entity, entity, Entities, no_entity, an_entity}
-use Rattle.ir_print.specs.Shapes.{parts_in, IsListOf, Fits, FitAll, FitMembers, FitsMember, FitArguments}
+use Rattle.ir_print.specs.Formats.{Formats, alternative}
+use Rattle.ir_print.specs.Pieces.{value_of_kind, list, item, chosen, operands, successor, region, leaf, ValueTree, Pieces, Values, canonical_value, operation, a_region, block, Entity, entity, Entities, no_entity, an_entity}
+use Rattle.ir_print.specs.Shapes.{parts_in, IsListOf, IsChoiceOf, Fits, FitAll, FitMembers, FitsMember, FitArguments}
 use Rattle.ir_grammar.specs.declared.grammar.Action.{Action}
 use Rattle.ir_grammar.specs.declared.grammar.Action.TheVariants as act
 use Rattle.ir_forest.specs.Bare.{IsBare, AreBare, AreBareArguments, IsBareTree, AreBareTrees, KeepsBare}
@@ -12,6 +12,7 @@ use Rattle.ir_forest.specs.Closed.{FitsTree, FitTrees, unlabelled, all_unlabelle
 use Rattle.ir_forest.specs.Forest.{ActionSpan}
 use Rattle.ir_forest.specs.Meaning.{head_of, with_piece, pieces_in, by_operation, by_region, by_label, by_argument, arguments_in, operations_in, regions_in, blocks_in, renamed, all_renamed}
 use Rattle.ir_rereading.specs.Outer.{is_value_step, is_plain_step, has_outer_operands}
+use Rattle.ir_rereading.proofs.Alternatives.{known_format, value_alternative}
 use Rattle.ir_rereading.proofs.layouts.LayoutValues.{IsPlain, ArePlain}
 use Rattle.ir_rereading.proofs.layouts.LayoutOperations.{IsPlainPart, ArePlainParts, ArePlainArguments, IsPlainTree, ArePlainTrees}
 use Rattle.ir_print.specs.declared.format.ValueSort.{ValueSort}
@@ -27,11 +28,20 @@ module _ (f : Formats) (v : Values) (o : Outer f) where
   list_plain (step.list_of member printed cs) ts p fit bare inner = inner (parts_in member) (values_in member p) fit bare
   list_plain _ ts p fit bare inner = absurd fit
 
+  -- one of several formats, given its parts
+  choice_plain : (s : step.Step) (n : ℕ) (ts : Pieces) → is_value_step s ≡ true → IsChoiceOf s n (λ ss. FitAll f v ss ts)
+      → ((ss : List step.Step) → AllPass is_value_step ss → FitAll f v ss ts → ArePlain ts) → ArePlain ts
+  choice_plain (step.choice_of cs) n ts p fit inner =
+      let k = known_format (alternative cs n) (λ ss. FitAll f v ss ts) fit in
+      inner (parts_in k.0) (values_in k.0 (value_alternative cs n k.0 p k.1)) k.2
+  choice_plain _ n ts p fit inner = absurd fit
+
   mutual
     value_plain : (t : ValueTree) (s : step.Step) → is_value_step s ≡ true → Fits f v s t → IsBare t → IsPlain t
     value_plain (node (value_of_kind sort n) ts) s p fit bare = values_plain ts (parts_in fit.1.format) (o.values sort n fit.1 fit.2) fit.3 bare
     value_plain (node list ts) s p fit bare = list_plain s ts p fit bare (λ ss q fits b. members_plain ts ss q fits b)
     value_plain (node item ts) s p fit bare = absurd fit
+    value_plain (node (chosen n) ts) s p fit bare = choice_plain s n ts p fit (λ ss q fits. values_plain ts ss q fits bare)
     value_plain (node (operands n) ts) s p fit bare = absurd (values_alone s n fit p)
     value_plain (node (successor n) ts) s p fit bare = let wrong : false ≡ true = ap is_value_step (sym fit) ∙ p in cc
     value_plain (node region ts) s p fit bare = let wrong : false ≡ true = ap is_value_step (sym fit) ∙ p in cc
@@ -54,10 +64,17 @@ module _ (f : Formats) (v : Values) (o : Outer f) where
   list_part (step.list_of member printed cs) ts p fit bare = members_plain ts (parts_in member) (values_in member p) fit bare
   list_part _ ts p fit bare = absurd fit
 
+  choice_part : (s : step.Step) (n : ℕ) (ts : Pieces) → is_plain_step s ≡ true → IsChoiceOf s n (λ ss. FitAll f v ss ts) → AreBare ts → ArePlain ts
+  choice_part (step.choice_of cs) n ts p fit bare =
+      let k = known_format (alternative cs n) (λ ss. FitAll f v ss ts) fit in
+      values_plain ts (parts_in k.0) (values_in k.0 (value_alternative cs n k.0 p k.1)) k.2 bare
+  choice_part _ n ts p fit bare = absurd fit
+
   part_plain : (t : ValueTree) (s : step.Step) → is_plain_step s ≡ true → Fits f v s t → IsBare t → IsPlainPart t
   part_plain (node (value_of_kind sort n) ts) s p fit bare = value_plain (node (value_of_kind sort n) ts) s (ap is_value_step fit.0) fit bare
   part_plain (node list ts) s p fit bare = list_part s ts p fit bare
   part_plain (node item ts) s p fit bare = absurd fit
+  part_plain (node (chosen n) ts) s p fit bare = choice_part s n ts p fit bare
   part_plain (node (operands n) ts) s p fit bare = bare
   part_plain (node (successor n) ts) s p fit bare = bare
   part_plain (node region ts) s p fit bare = bare
@@ -97,6 +114,7 @@ module _ (v : Values) (text : ℕ → List ℕ) (keeps : KeepsBare v) where
   piece_bare (act.Begin sort kind) cs many ts rest h r = (canonical_bare sort kind ts h, r)
   piece_bare act.BeginList cs many ts rest h r = (h, r)
   piece_bare act.BeginItem cs many ts rest h r = (h, r)
+  piece_bare (act.BeginChoice n) cs many ts rest h r = (h, r)
   piece_bare act.BeginOperands cs many ts rest h r = (refl, r)
   piece_bare act.BeginSuccessor cs many ts rest h r = (refl, r)
   piece_bare act.BeginRegion cs many ts rest h r = (refl, r)

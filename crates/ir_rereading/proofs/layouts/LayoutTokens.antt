@@ -1,79 +1,138 @@
 -- The characters of a layout are its tokens.
-use Rattle.std.proofs.Common.{◌≡◌, ℕ, zero, suc, ◌+◌, Bool, true, false, ◌&&◌, ◌||◌, List, [], ◌∷◌, ◌++◌, map, take, drop, Option, Some, None, slice_get, refl, sym, subst}
+use Rattle.std.proofs.Common.{◌≡◌, ℕ, zero, suc, ◌+◌, Bool, true, false, ◌&&◌, ◌||◌, List, [], ◌∷◌, ◌++◌, map, take, drop, replicate, Option, Some, None, slice_get, refl, sym, ap, ◌∙◌, subst, arith, ◌==◌, if◌then◌else◌}
 use Rattle.std.specs.List.{list_all}
-use Rattle.std.specs.Str.{IsAscii, IsUtf8, chars}
-use Rattle.std.proofs.lemmas.Str.{IsUtf8-from_ascii, chars-IsAscii}
+use Rattle.std.specs.Fmt.{decimal}
+use Rattle.std.specs.Str.{IsAscii, IsUtf8, chars, all_scalars, encode_utf8_all}
+use Rattle.std.proofs.lemmas.Str.{IsUtf8-from_ascii, chars-IsAscii, IsUtf8-append, IsUtf8-nil, chars-append, chars-encodes, chars-nil}
+use Rattle.std.proofs.lemmas.Str.Ascii.{IsAscii-nil, IsAscii-cons}
 use Rattle.ir_names.specs.Tree.{node, no_tree, a_tree}
 use Rattle.ir_names.specs.Text.{is_identifier}
 use Rattle.ir_print.specs.Formats as step
-use Rattle.ir_print.specs.Formats.{Formats, Kind, Step, Steps, no_steps, kinds_of}
-use Rattle.ir_print.specs.Layout.{Before, an_id, a_word, a_part, gap_of_word, gap_of_part, line, leaf_text}
-use Rattle.ir_print.specs.Pieces.{value_of_kind, list, item, operands, successor, region, Leaf, leaf, name, number, width, ValueTree, Pieces, Values, EntityHead, operation, a_region, block, Entity, entity, Entities, no_entity, an_entity}
-use Rattle.ir_print.specs.Shapes.{parts_in, IsInRange, Fits, FitAll, FitMembers, FitsMember, FitArguments}
+use Rattle.ir_print.specs.Formats.{Formats, Kind, Step, Steps, no_steps, Choices, no_choice, a_choice, alternative, kinds_of}
+use Rattle.ir_print.specs.Layout.{Before, an_id, a_word, a_part, gap_of_word, gap_of_part, line, number_text, width_text, escaped, in_quotes, spell}
+use Rattle.ir_print.specs.Pieces.{value_of_kind, list, item, chosen, operands, successor, region, Leaf, leaf, name, number, unsigned, width, quoted, ValueTree, Pieces, Values, EntityHead, operation, a_region, block, Entity, entity, Entities, no_entity, an_entity}
+use Rattle.ir_print.specs.Shapes.{parts_in, IsKnownOf, IsInRange, Fits, FitAll, FitMembers, FitsMember, FitArguments}
 use Rattle.ir_grammar.specs.declared.grammar.Action.{Action}
 use Rattle.ir_grammar.specs.declared.grammar.Action.TheVariants as act
 use Rattle.ir_tokens.specs.declared.tokens.Token.{Token}
 use Rattle.ir_tokens.specs.Tokens.{is_sign, ReadsAs}
 use Rattle.ir_formats.specs.Words.{text_of}
-use Rattle.ir_rereading.specs.Printable.{is_word, less_spaces, is_before_spaces, is_printed, begins_apart, ends_apart, BoundaryBefore, apart, behind, part, may_follow, may_take, is_step_apart, are_steps_apart, is_kind_printable, is_printable}
+use Rattle.ir_rereading.specs.Printable.{is_word, less_spaces, is_before_spaces, is_printed, begins_apart, ends_apart, BoundaryBefore, apart, behind, part, may_follow, may_take, is_step_apart, are_steps_apart, are_choices_apart, is_kind_printable, is_printable}
 use Rattle.ir_forest.specs.Closed.{names_of, FitsHead, FitsTree, FitTrees}
-use Rattle.ir_rereading.proofs.layouts.Marks.{Mark, white, token, word, did, characters, tokens, Marker, part_on, format_on, kind_on, more_members_on, members_on, piece_on, parts_on, type_on, more_names_on, names_on, results_on, operands_on, first_region_on, edge_on, all_parts_on, operation_head_on, argument_on, more_arguments_on, arguments_on, block_head_on, operation_on, regions_on, region_on, blocks_on, block_on, operations_on, more_operations_on, marks, kind_of_text, AreIdentifiers, IsSpeltHead, IsSpelt, AreSpelt}
+use Rattle.ir_rereading.proofs.layouts.Marks.{Mark, white, token, word, one_leaf, did, chunks, characters, tokens, Marker, part_on, format_on, some_format_on, kind_on, more_members_on, members_on, piece_on, parts_on, type_on, more_names_on, names_on, results_on, operands_on, first_region_on, edge_on, all_parts_on, operation_head_on, argument_on, more_arguments_on, arguments_on, block_head_on, operation_on, regions_on, region_on, blocks_on, block_on, operations_on, more_operations_on, marks, kind_of_text, AreIdentifiers, IsSpeltHead, IsSpelt, AreSpelt}
+use Rattle.ir_rereading.proofs.Alternatives.{known_along}
 use Rattle.ir_rereading.proofs.layouts.Lexemes as lexemes
-use Rattle.ir_rereading.proofs.layouts.Lexemes.{clash, ended, Lexes, placed_all, lexes_ascii}
-use Rattle.ir_rereading.proofs.layouts.LexedWords.{Opens, Follows, IsLexeme, lexeme_opens, sign_opens, sign_follows, blank_follows, spaces_open, identifier_is, number_is, width_is, word_is, Behind, word_opens, word_clean}
+use Rattle.ir_rereading.proofs.layouts.Lexemes.{clash, ended, Lexes, placed_all, sign_low}
+use Rattle.ir_rereading.proofs.layouts.PlainWords.{word_ascii}
+use Rattle.ir_rereading.proofs.layouts.LexedWords.{Opens, Follows, IsLexeme, lexeme_text, lexeme_opens, quoted_opens, printed_ascii, sign_opens, sign_follows, blank_follows, spaces_open, identifier_is, number_is, width_is, word_is, Behind, word_opens, word_clean}
 use Rattle.ir_print.specs.declared.format.ValueSort.{ValueSort}
 use Rattle.ir_print.specs.declared.format.ValueSort.TheVariants as sorts
 use Rattle.ir_formats.proofs.Booleans.{both_hold}
 
 -- ---- marks
 
--- The characters of the marks are their tokens.
+-- these bytes are UTF-8, and spell the characters
+abbrev pub AreCoded : (bytes cs : List ℕ) → Type 0
+AreCoded bytes cs = IsUtf8 bytes × (chars bytes ≡ cs)
+
+ascii_coded : (xs bytes cs : List ℕ) → IsAscii xs → AreCoded bytes cs → AreCoded (xs ++ bytes) (xs ++ cs)
+ascii_coded xs bytes cs a h =
+    let utf8 = IsUtf8-from_ascii xs a in
+    (IsUtf8-append xs bytes utf8 h.0, chars-append xs bytes utf8 ∙ (ap (λ z. z ++ chars bytes) (chars-IsAscii xs a) ∙ ap (λ z. xs ++ z) h.1))
+
+and_both : (a b : Bool) → a ≡ true → b ≡ true → a && b ≡ true
+and_both true b e f = f
+and_both false b e f = absurd (let t : false ≡ true = e in cc)
+
+escaped_scalars : (q : List ℕ) → all_scalars q ≡ true → all_scalars (escaped q ++ 34 ∷ []) ≡ true
+escaped_scalars [] h = refl
+escaped_scalars (c ∷ q) h =
+    let parts = both_hold _ _ h in
+    go (c == 34 || c == 92) (and_both _ _ parts.0 (escaped_scalars q parts.1))
+  where
+    go : (b : Bool) → all_scalars (c ∷ (escaped q ++ 34 ∷ [])) ≡ true → all_scalars ((if b then 92 ∷ c ∷ escaped q else c ∷ escaped q) ++ 34 ∷ []) ≡ true
+    go true e = e
+    go false e = e
+
+quoted_coded : (q bytes cs : List ℕ) → all_scalars q ≡ true → AreCoded bytes cs → AreCoded (encode_utf8_all (in_quotes q) ++ bytes) (in_quotes q ++ cs)
+quoted_coded q bytes cs s h =
+    let scalar : all_scalars (in_quotes q) ≡ true = escaped_scalars q s in
+    let utf8 : IsUtf8 (encode_utf8_all (in_quotes q)) = (in_quotes q, (scalar, refl)) in
+    (IsUtf8-append _ bytes utf8 h.0, chars-append _ bytes utf8 ∙ (ap (λ z. z ++ chars bytes) (chars-encodes (in_quotes q) scalar) ∙ ap (λ z. in_quotes q ++ z) h.1))
+
+-- the bytes of the marks spell their characters
+abbrev pub IsCoded : List Mark → Type 0
+IsCoded ms = AreCoded (spell (chunks ms)) (characters ms)
+
+sign_ascii : (c : ℕ) → is_sign c ≡ true → IsAscii (c ∷ [])
+sign_ascii c h = IsAscii-cons c [] (sign_low c h) IsAscii-nil
+
+spaces_ascii : (n : ℕ) → IsAscii (replicate n 32)
+spaces_ascii zero = IsAscii-nil
+spaces_ascii (suc n) = IsAscii-cons 32 (replicate n 32) (omega arith) (spaces_ascii n)
+
+-- The characters of the marks are their tokens, and their bytes spell them.
 pub record IsLexed (ms : List Mark) : Type 0 where
   pub opens : Opens (characters ms) (tokens ms)
+  pub coded : IsCoded ms
 
 -- The same, and they stop every token.
 pub record IsNext (ms : List Mark) : Type 0 where
   pub follows : Follows (characters ms) (tokens ms)
+  pub coded : IsCoded ms
 
 loose : {ms : List Mark} → IsNext ms → IsLexed ms
-loose k = record { opens = k.follows.opens }
+loose k = record { opens = k.follows.opens; coded = k.coded }
 
 done : {a : Action} {ms : List Mark} → IsNext ms → IsNext (did a ∷ ms)
-done k = record { follows = k.follows }
+done k = record { follows = k.follows; coded = k.coded }
 
 acted : {a : Action} {ms : List Mark} → IsLexed ms → IsLexed (did a ∷ ms)
-acted l = record { opens = l.opens }
+acted l = record { opens = l.opens; coded = l.coded }
 
 lexeme : (x : List ℕ) {ms : List Mark} → IsLexeme x → IsNext ms → IsLexed (token x ∷ ms)
-lexeme x t k = record { opens = lexeme_opens x t k.follows }
+lexeme x t k = record { opens = lexeme_opens x t k.follows; coded = ascii_coded x _ _ (lexeme_text x t) k.coded }
 
 signed : (c : ℕ) {ms : List Mark} → is_sign c ≡ true → IsLexed ms → IsNext (token (c ∷ []) ∷ ms)
-signed c h l = record { follows = sign_follows c h l.opens }
+signed c h l = record { follows = sign_follows c h l.opens; coded = ascii_coded (c ∷ []) _ _ (sign_ascii c h) l.coded }
 
 spaced : {ms : List Mark} → IsLexed ms → IsNext (white (32 ∷ []) ∷ ms)
-spaced l = record { follows = blank_follows 32 refl l.opens }
+spaced l = record { follows = blank_follows 32 refl l.opens; coded = ascii_coded (32 ∷ []) _ _ (spaces_ascii 1) l.coded }
 
 lined : (n : ℕ) {ms : List Mark} → IsLexed ms → IsNext (white (line n) ∷ ms)
-lined n l = record { follows = blank_follows 10 refl (spaces_open n l.opens) }
+lined n l = record {
+  follows = blank_follows 10 refl (spaces_open n l.opens);
+  coded = ascii_coded (line n) _ _ (IsAscii-cons 10 (replicate n 32) (omega arith) (spaces_ascii n)) l.coded;
+}
 
 unset : {ms : List Mark} → IsLexed ms → IsLexed (white [] ∷ ms)
-unset l = record { opens = l.opens }
+unset l = record { opens = l.opens; coded = l.coded }
 
 unset_next : {ms : List Mark} → IsNext ms → IsNext (white [] ∷ ms)
-unset_next k = record { follows = k.follows }
+unset_next k = record { follows = k.follows; coded = k.coded }
 
 -- a sign with a space behind it, as it is printed between two
 sign_word : (c : ℕ) {ms : List Mark} → is_sign c ≡ true → IsLexed ms → IsNext (word (c ∷ 32 ∷ []) (c ∷ []) ∷ ms)
-sign_word c h l = record { follows = sign_follows c h (blank_follows 32 refl l.opens).opens }
+sign_word c h l = record {
+  follows = sign_follows c h (blank_follows 32 refl l.opens).opens;
+  coded = ascii_coded (c ∷ 32 ∷ []) _ _ (IsAscii-cons c (32 ∷ []) (sign_low c h) (spaces_ascii 1)) l.coded;
+}
 
 -- a sign with spaces around it
 set_word : (c : ℕ) {ms : List Mark} → is_sign c ≡ true → IsLexed ms → IsNext (word (32 ∷ c ∷ 32 ∷ []) (c ∷ []) ∷ ms)
-set_word c h l = record { follows = blank_follows 32 refl (sign_opens c h (blank_follows 32 refl l.opens).opens) }
+set_word c h l = record {
+  follows = blank_follows 32 refl (sign_opens c h (blank_follows 32 refl l.opens).opens);
+  coded = ascii_coded (32 ∷ c ∷ 32 ∷ []) _ _ (IsAscii-cons 32 (c ∷ 32 ∷ []) (omega arith) (IsAscii-cons c (32 ∷ []) (sign_low c h) (spaces_ascii 1))) l.coded;
+}
 
 -- what has to follow a word
 abbrev WordNext : Bool → List Mark → Type 0
 WordNext true ms = IsLexed ms
 WordNext false ms = IsNext ms
+
+word_coded : (b : Bool) (ms : List Mark) → WordNext b ms → IsCoded ms
+word_coded true ms l = l.coded
+word_coded false ms k = k.coded
 
 word_next : (b : Bool) (ms : List Mark) → WordNext b ms → Behind b (characters ms) (tokens ms)
 word_next true ms l = l.opens
@@ -83,12 +142,18 @@ word_next false ms k = k.follows
 format_word : (printed text : List ℕ) (ms : List Mark) → is_printed printed text ≡ true → WordNext (ends_apart printed) ms → IsLexed (word printed text ∷ ms)
 format_word printed text ms h w =
     let b = both_hold (is_word text) (is_before_spaces text (less_spaces printed)) h in
-    record { opens = word_opens printed text _ _ b.0 b.1 (word_next (ends_apart printed) ms w) }
+    record {
+      opens = word_opens printed text _ _ b.0 b.1 (word_next (ends_apart printed) ms w);
+      coded = ascii_coded printed _ _ (printed_ascii text printed (word_ascii text b.0) b.1) (word_coded (ends_apart printed) ms w);
+    }
 
 format_word_next : (printed text : List ℕ) (ms : List Mark) → is_printed printed text ≡ true → begins_apart printed ≡ true → WordNext (ends_apart printed) ms → IsNext (word printed text ∷ ms)
 format_word_next printed text ms h a w =
     let b = both_hold (is_word text) (is_before_spaces text (less_spaces printed)) h in
-    record { follows = record { opens = word_opens printed text _ _ b.0 b.1 (word_next (ends_apart printed) ms w); clean = word_clean printed text _ b.0 b.1 a } }
+    record {
+      follows = record { opens = word_opens printed text _ _ b.0 b.1 (word_next (ends_apart printed) ms w); clean = word_clean printed text _ b.0 b.1 a };
+      coded = ascii_coded printed _ _ (printed_ascii text printed (word_ascii text b.0) b.1) (word_coded (ends_apart printed) ms w);
+    }
 
 -- ---- formats
 
@@ -184,6 +249,13 @@ lex_format before edge (step.step s ss) ps rest h m k =
     let c = both_hold (may_take edge) (is_step_apart s) b.0 in
     owes_step before edge s (parts_in ss) ps _ c.0 c.1 m (λ b2 qs g. lex_format b2 part ss qs rest b.1 g k)
 
+-- what one of several formats says
+lex_alternative : (cs : Choices) (n : ℕ) (ps : List (Option Marker)) (rest : List Mark) → are_choices_apart cs ≡ true → IsKnownOf (alternative cs n) (λ ss. AreMarked ss ps) → IsNext rest
+    → IsLexed (some_format_on (alternative cs n) ps rest)
+lex_alternative no_choice n ps rest a h k = absurd h
+lex_alternative (a_choice ss cs) zero ps rest a h k = lex_format a_word apart ss ps rest (both_hold (are_steps_apart apart ss) (are_choices_apart cs) a).0 h k
+lex_alternative (a_choice ss cs) (suc n) ps rest a h k = lex_alternative cs n ps rest (both_hold (are_steps_apart apart ss) (are_choices_apart cs) a).1 h k
+
 -- a kind's id, and what its format says
 lex_kind : (k : Kind) (begins ends : Action) (ps : List (Option Marker)) (rest : List Mark) → is_kind_printable k ≡ true → AreMarked (parts_in k.format) ps → IsNext rest
     → IsLexed (kind_on (Some k) begins ends ps rest)
@@ -274,10 +346,12 @@ drop_next (suc n) (r ∷ rs) h = drop_next n rs h.1
 -- ---- pieces
 
 -- what a leaf is spelled as is one token
-leaf_is : (x : Leaf) → IsInRange x → IsLexeme (leaf_text x)
-leaf_is (name cs) h = identifier_is cs h
-leaf_is (number negative magnitude) h = number_is negative magnitude h
-leaf_is (width sign bits) h = width_is sign bits h
+leaf_is : (x : Leaf) {ms : List Mark} → IsInRange x → IsNext ms → IsLexed (one_leaf x ∷ ms)
+leaf_is (name cs) h k = let l = lexeme cs (identifier_is cs h) k in record { opens = l.opens; coded = l.coded }
+leaf_is (number negative magnitude) h k = let l = lexeme (number_text negative magnitude) (number_is negative magnitude h) k in record { opens = l.opens; coded = l.coded }
+leaf_is (unsigned magnitude) h k = let l = lexeme (decimal magnitude) (number_is false magnitude h) k in record { opens = l.opens; coded = l.coded }
+leaf_is (width sign bits) h k = let l = lexeme (width_text sign bits) (width_is sign bits h) k in record { opens = l.opens; coded = l.coded }
+leaf_is (quoted cs) h k = record { opens = quoted_opens cs k.follows; coded = quoted_coded cs _ _ h k.coded }
 
 module _ (f : Formats) (v : Values) (printable : is_printable f ≡ true) where
   printable_values : (sort : ValueSort) → list_all is_kind_printable (kinds_of f sort) ≡ true
@@ -300,11 +374,15 @@ module _ (f : Formats) (v : Values) (printable : is_printable f ≡ true) where
         (lex_items ts member printed text h (both_hold (is_printed printed text && begins_apart printed && ends_apart printed) (are_steps_apart part member) a).1) (done k))
     lex_piece (node list ts) _ h a rest k = absurd h
     lex_piece (node item ts) s h a rest k = absurd h
+    lex_piece (node (chosen n) ts) (step.choice_of cs) h a rest k =
+        acted (lex_alternative cs n (parts_on f ts) (did act.EndChoice ∷ rest) a
+        (known_along (alternative cs n) (λ ss. FitAll f v ss ts) (λ ss. AreMarked ss (parts_on f ts)) (λ ss fit. lex_pieces ts ss fit) h) (done k))
+    lex_piece (node (chosen n) ts) _ h a rest k = absurd h
     lex_piece (node (operands n) ts) s h a rest k = loose k
     lex_piece (node (successor n) ts) s h a rest k = loose k
     lex_piece (node region ts) s h a rest k = loose k
-    lex_piece (node (leaf x) ts) step.symbol_name h a rest k = loose (signed 64 refl (lexeme (leaf_text x) (leaf_is x h.1) (done k)))
-    lex_piece (node (leaf x) ts) (step.a_leaf sort) h a rest k = lexeme (leaf_text x) (leaf_is x h.1) (done k)
+    lex_piece (node (leaf x) ts) step.symbol_name h a rest k = loose (signed 64 refl (leaf_is x h.1 (done k)))
+    lex_piece (node (leaf x) ts) (step.a_leaf sort) h a rest k = leaf_is x h.1 (done k)
     lex_piece (node (leaf x) ts) _ h a rest k = absurd h.0
 
     lex_pieces : (ts : Pieces) (ss : List Step) → FitAll f v ss ts → AreMarked ss (parts_on f ts)
@@ -395,7 +473,7 @@ module _ (f : Formats) (v : Values) (printable : is_printable f ≡ true) where
 
   -- the characters of a layout are its tokens
   pub lex_marks : (t : Entity (List ℕ)) → FitsTree f v t → IsSpelt t → IsLexed (marks f t)
-  lex_marks t g s = lex_operation t 0 [] g s (record { follows = record { opens = record { read = ended; fresh = refl }; clean = refl } })
+  lex_marks t g s = lex_operation t 0 [] g s (record { follows = record { opens = record { read = ended; fresh = refl }; clean = refl }; coded = (IsUtf8-nil, chars-nil) })
 
 -- ---- layouts
 
@@ -407,14 +485,12 @@ layout_tokens f v t p g s =
     let a = placed_all (lexemes.lined (lex_marks f v p t g s).opens.read) in
     (a.found, a.read, a.texts, a.sorts)
 
--- A layout has ASCII characters alone.
-pub layout_ascii : (f : Formats) (v : Values) (t : Entity (List ℕ)) → is_printable f ≡ true → FitsTree f v t → IsSpelt t → IsAscii (characters (marks f t))
-layout_ascii f v t p g s = lexes_ascii (lex_marks f v p t g s).opens.read
-
--- So its text is its bytes, with the line end behind it.
-pub layout_utf8 : (f : Formats) (v : Values) (t : Entity (List ℕ)) → is_printable f ≡ true → FitsTree f v t → IsSpelt t → IsUtf8 (characters (marks f t) ++ 10 ∷ [])
-layout_utf8 f v t p g s = IsUtf8-from_ascii _ (lexes_ascii (lexemes.lined (lex_marks f v p t g s).opens.read))
-
-pub layout_chars : (f : Formats) (v : Values) (t : Entity (List ℕ)) → is_printable f ≡ true → FitsTree f v t → IsSpelt t
-    → chars (characters (marks f t) ++ 10 ∷ []) ≡ characters (marks f t) ++ 10 ∷ []
-layout_chars f v t p g s = chars-IsAscii _ (lexes_ascii (lexemes.lined (lex_marks f v p t g s).opens.read))
+-- Its bytes spell its characters, and so it is with the line end behind them.
+pub layout_coded : (f : Formats) (v : Values) (t : Entity (List ℕ)) → is_printable f ≡ true → FitsTree f v t → IsSpelt t
+    → AreCoded (spell (chunks (marks f t)) ++ 10 ∷ []) (characters (marks f t) ++ 10 ∷ [])
+layout_coded f v t p g s =
+    let coded = (lex_marks f v p t g s).coded in
+    let ascii = IsAscii-cons 10 [] (omega arith) IsAscii-nil in (
+      IsUtf8-append _ (10 ∷ []) coded.0 (IsUtf8-from_ascii (10 ∷ []) ascii),
+      chars-append _ (10 ∷ []) coded.0 ∙ (ap (λ z. z ++ chars (10 ∷ [])) coded.1 ∙ ap (λ z. characters (marks f t) ++ z) (chars-IsAscii (10 ∷ []) ascii)),
+    )

@@ -4,8 +4,8 @@ use Rattle.std.proofs.lemmas.List.{append-nil}
 use Rattle.ir_names.specs.Tree.{Trees, node, no_tree, a_tree, join}
 use Rattle.ir_print.specs.Formats as step
 use Rattle.ir_print.specs.Formats.{Formats, Kind, Steps}
-use Rattle.ir_print.specs.Layout.{line}
-use Rattle.ir_print.specs.Pieces.{value_of_kind, list, item, operands, successor, region, leaf, ValueTree, Pieces, Values, operation, a_region, block, Entity, entity, Entities, no_entity, an_entity}
+use Rattle.ir_print.specs.Layout.{line, leaf_text}
+use Rattle.ir_print.specs.Pieces.{value_of_kind, list, item, chosen, operands, successor, region, leaf, ValueTree, Pieces, Values, operation, a_region, block, Entity, entity, Entities, no_entity, an_entity}
 use Rattle.ir_print.specs.Shapes.{parts_in, Fits, FitArguments}
 use Rattle.ir_forest.specs.Closed.{IsOperation, AreRegions, IsRegion, AreBlocks, IsBlock, AreOperations, FitsTree, FitTrees}
 use Rattle.ir_grammar.specs.declared.grammar.Action.TheVariants as act
@@ -18,7 +18,7 @@ use Rattle.ir_rereading.proofs.layouts.LayoutValues.{IsPlain, join_none, kind_at
 use Rattle.ir_rereading.proofs.layouts.LayoutOperations.{ArePlainArguments, IsPlainTree, ArePlainTrees, RegionsRead, all_parts_read}
 use Rattle.ir_rereading.proofs.layouts.LayoutEntities.{SaysArguments, no_arguments, more_arguments, argument_says, SaysEntities, none_said, more_said, SaysAllEntities, say_all_entities, SaysBody, body_says, block_says, region_says, operation_says, results_read}
 use Rattle.ir_print.specs.declared.format.ValueSort.TheVariants as sorts
-use Rattle.ir_rereading.proofs.layouts.Marks.{Mark, white, token, word, did, tokens, events, kind_on, type_on, parts_on, results_on, all_parts_on, argument_on, more_arguments_on, arguments_on, operation_on, regions_on, region_on, blocks_on, block_on, operations_on, more_operations_on, marks, IsSpelt, AreSpelt}
+use Rattle.ir_rereading.proofs.layouts.Marks.{Mark, white, token, word, one_leaf, did, tokens, events, kind_on, type_on, parts_on, results_on, all_parts_on, argument_on, more_arguments_on, arguments_on, operation_on, regions_on, region_on, blocks_on, block_on, operations_on, more_operations_on, marks, IsSpelt, AreSpelt}
 
 module _ (f : Formats) (v : Values) (text : ℕ → List ℕ) where
   -- ---- arguments
@@ -41,6 +41,7 @@ module _ (f : Formats) (v : Values) (text : ℕ → List ℕ) where
   typed_read cs (node (value_of_kind sorts.Attribute n) ts) fit plain k rest h = let e = fit.0 in cc
   typed_read cs (node list ts) fit plain k rest h = absurd fit
   typed_read cs (node item ts) fit plain k rest h = absurd fit
+  typed_read cs (node (chosen n) ts) fit plain k rest h = absurd fit
   typed_read cs (node (operands n) ts) fit plain k rest h = absurd plain
   typed_read cs (node (successor n) ts) fit plain k rest h = absurd plain
   typed_read cs (node region ts) fit plain k rest h = absurd plain
@@ -175,6 +176,10 @@ have_texts text (word printed cs ∷ ms) k h =
     let first : k ≡ k + 0 = omega arith in
     let next : (j : ℕ) → k + 1 + j ≡ k + suc j = λ j. omega arith in
     (ap text first ∙ h 0 cs refl, have_texts text ms (k + 1) (λ j x e. ap text (next j) ∙ h (suc j) x e))
+have_texts text (one_leaf x ∷ ms) k h =
+    let first : k ≡ k + 0 = omega arith in
+    let next : (j : ℕ) → k + 1 + j ≡ k + suc j = λ j. omega arith in
+    (ap text first ∙ h 0 (leaf_text x) refl, have_texts text ms (k + 1) (λ j x e. ap text (next j) ∙ h (suc j) x e))
 have_texts text (did a ∷ ms) k h = have_texts text ms k h
 
 pub fine_whole : (v : Values) (text : ℕ → List ℕ) (names : List ℕ) (ts : Trees ActionSpan) → AreFine v text names ts → AreWhole ts

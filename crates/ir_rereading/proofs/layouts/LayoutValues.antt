@@ -6,16 +6,17 @@ use Rattle.ir_print.specs.Formats as step
 use Rattle.ir_print.specs.Formats.{Formats, Kind, Steps, no_steps, kinds_of}
 use Rattle.ir_print.specs.declared.format.LeafSort.{LeafSort}
 use Rattle.ir_print.specs.declared.format.ValueSort.{ValueSort}
-use Rattle.ir_print.specs.Layout.{a_word, member_of, leaf_text, AreFlat, AreShallow, Deeper}
-use Rattle.ir_print.specs.Pieces.{value_of_kind, list, item, operands, successor, region, Leaf, leaf, ValueTree, Pieces, Values, refused_value, canonical_value, Entities, no_entity}
-use Rattle.ir_print.specs.Shapes.{parts_in, IsListOf, sort_of, TakesLeaf, IsInRange, Fits, FitAll, FitMembers, FitsMember}
+use Rattle.ir_print.specs.Layout.{a_word, member_of, alternative_of, leaf_text, AreFlat, AreShallow, Deeper}
+use Rattle.ir_print.specs.Pieces.{value_of_kind, list, item, chosen, operands, successor, region, Leaf, leaf, ValueTree, Pieces, Values, refused_value, canonical_value, Entities, no_entity}
+use Rattle.ir_print.specs.Shapes.{parts_in, IsListOf, IsKnownOf, IsChoiceOf, sort_of, TakesLeaf, IsInRange, Fits, FitAll, FitMembers, FitsMember}
 use Rattle.ir_grammar.specs.declared.grammar.Action.{Action}
 use Rattle.ir_grammar.specs.declared.grammar.Action.TheVariants as act
 use Rattle.ir_forest.specs.Forest.{end_of, ActionSpan}
 use Rattle.ir_forest.specs.Meaning.{leaf_in, pieces_in, operands_in, successors_in, regions_in, all_renamed}
+use Rattle.ir_rereading.proofs.Alternatives.{known_along}
 use Rattle.ir_rereading.proofs.layouts.LayoutNumbers.{leaf_again}
-use Rattle.ir_rereading.proofs.layouts.LayoutParts.{joined_none, AreLow, AreFine, HaveTexts, Gives, Reads, so, then, taken, worded, nothing, IsNode, IsLeaf, between, single, Says, says_none, says_more, AreRead, format_read, kind_read}
-use Rattle.ir_rereading.proofs.layouts.Marks.{token, did, Marker, format_on, kind_on, leaf_on, members_on, more_members_on, piece_on, parts_on}
+use Rattle.ir_rereading.proofs.layouts.LayoutParts.{joined_none, AreLow, AreFine, HaveTexts, Gives, Reads, so, then, taken, leaf_taken, worded, nothing, IsNode, IsLeaf, between, single, Says, says_none, says_more, AreRead, format_read, kind_read}
+use Rattle.ir_rereading.proofs.layouts.Marks.{one_leaf, did, Marker, format_on, some_format_on, kind_on, leaf_on, members_on, more_members_on, piece_on, parts_on}
 
 -- ---- what is printed whole
 
@@ -25,6 +26,7 @@ abbrev mutual
   IsPlain (node (value_of_kind sort n) ts) = ArePlain ts
   IsPlain (node list ts) = ArePlain ts
   IsPlain (node item ts) = ArePlain ts
+  IsPlain (node (chosen n) ts) = ArePlain ts
   IsPlain (node (operands n) ts) = ⊥
   IsPlain (node (successor n) ts) = ⊥
   IsPlain (node region ts) = ⊥
@@ -110,6 +112,18 @@ module _ (v : Values) (text : ℕ → List ℕ) where
         low = λ d e s f g rest h. (λ w. cc, a.low d e s f.0 tt, h);
       })
 
+  pub choice_says : (n i : ℕ) (ts : Pieces) (xs : Trees ActionSpan) → IsNode (act.BeginChoice n) i (Says v text ts [] [] no_entity) xs → SaysOne (node (chosen n) ts) xs
+  choice_says n i ts xs q =
+      let a = say_all v text ts [] [] no_entity q.1 q.3 in
+      subst (SaysOne (node (chosen n) ts)) (sym q.2) (record {
+        fine = λ rest h. (tt, refl, tt, a.fine, h);
+        pieces = λ rest. ap (λ z. a_tree (node (chosen n) z) (pieces_in v text rest)) a.pieces;
+        operands = λ rest. refl;
+        successors = λ rest. refl;
+        regions = λ rest. refl;
+        low = λ d e s f g rest h. (λ w. cc, a.low d e s f.0 tt, h);
+      })
+
   -- ---- pieces of one token
 
   pub here : (k : ℕ) (cs : List ℕ) → text k ≡ cs → text (k + 1 - 1) ≡ cs
@@ -130,16 +144,16 @@ module _ (v : Values) (text : ℕ → List ℕ) where
 module _ (f : Formats) (v : Values) (text : ℕ → List ℕ) where
   -- ---- leaves
 
-  leaf_read : (s : step.Step) (x : Leaf) (ts : Pieces) → TakesLeaf s (sort_of x) → IsInRange x → ts ≡ no_tree → Reads text (SaysOne v text (node (leaf x) ts)) (leaf_on s (sort_of x) (leaf_text x))
+  leaf_read : (s : step.Step) (x : Leaf) (ts : Pieces) → TakesLeaf s (sort_of x) → IsInRange x → ts ≡ no_tree → Reads text (SaysOne v text (node (leaf x) ts)) (leaf_on s x)
   leaf_read step.symbol_name x ts t r e k rest h =
       let mark = did (act.Leaf (sort_of x)) ∷ rest in
-      taken text k (token (leaf_text x) ∷ mark) rest (codes "@")
-      (taken text (k + 1) mark rest (leaf_text x)
+      taken text k (one_leaf x ∷ mark) rest (codes "@")
+      (leaf_taken text (k + 1) mark rest x
       (so text (k + 1 + 1) mark rest (λ xs q. leaf_says v text (sort_of x) (k + 1 + 1 - 1) (leaf_text x) x ts xs (here v text (k + 1) (leaf_text x) h.1.0) (leaf_again x r) e q)
       (single text (act.Leaf (sort_of x)) refl (k + 1 + 1) rest h.1.1)))
   leaf_read (step.a_leaf sort) x ts t r e k rest h =
       let mark = did (act.Leaf (sort_of x)) ∷ rest in
-      taken text k mark rest (leaf_text x)
+      leaf_taken text k mark rest x
       (so text (k + 1) mark rest (λ xs q. leaf_says v text (sort_of x) (k + 1 - 1) (leaf_text x) x ts xs (here v text k (leaf_text x) h.0) (leaf_again x r) e q)
       (single text (act.Leaf (sort_of x)) refl (k + 1) rest h.1))
   leaf_read _ x ts t r e k rest h = absurd t
@@ -169,6 +183,17 @@ module _ (f : Formats) (v : Values) (text : ℕ → List ℕ) where
       (between text act.BeginItem act.EndItem refl k (format_on a_word (member_of s) (parts_on f ts) (did act.EndItem ∷ rest)) rest
       (format_read v text (member_of s) a_word ts [] [] no_entity (parts_on f ts) r k (did act.EndItem ∷ rest) h))
 
+  -- one of several formats
+  some_format_read : (o : Option Steps) (ts : Pieces) → IsKnownOf o (λ ss. AreRead v text ss ts [] [] no_entity (parts_on f ts)) → Reads text (Says v text ts [] [] no_entity) (some_format_on o (parts_on f ts))
+  some_format_read None ts r k rest h = absurd r
+  some_format_read (Some ss) ts r k rest h = format_read v text ss a_word ts [] [] no_entity (parts_on f ts) r k rest h
+
+  choice_read : (s : step.Step) (n : ℕ) (ts : Pieces) → IsChoiceOf s n (λ ss. AreRead v text ss ts [] [] no_entity (parts_on f ts)) → Reads text (SaysOne v text (node (chosen n) ts)) (piece_on f (node (chosen n) ts) s)
+  choice_read s n ts r k rest h =
+      so text k (piece_on f (node (chosen n) ts) s rest) rest (choice_says v text n (k - 1) ts)
+      (between text (act.BeginChoice n) act.EndChoice refl k (some_format_on (alternative_of s n) (parts_on f ts) (did act.EndChoice ∷ rest)) rest
+      (some_format_read (alternative_of s n) ts r k (did act.EndChoice ∷ rest) h))
+
   mutual
     pub piece_read : (t : ValueTree) (s : step.Step) → Fits f v s t → IsPlain t → Reads text (SaysOne v text t) (piece_on f t s)
     piece_read (node (value_of_kind sort n) ts) s fit plain =
@@ -176,6 +201,8 @@ module _ (f : Formats) (v : Values) (text : ℕ → List ℕ) where
         (SaysOne v text (node (value_of_kind sort n) ts)) (λ i xs q. value_says v text sort n i ts xs fit.4 fit.5 q)
     piece_read (node list ts) s fit plain = list_read s ts fit (λ member printed cs fits. members_read ts member printed cs fits plain)
     piece_read (node item ts) s fit plain = absurd fit
+    piece_read (node (chosen n) ts) s fit plain = choice_read s n ts
+        (known_along (alternative_of s n) (λ ss. FitAll f v ss ts) (λ ss. AreRead v text ss ts [] [] no_entity (parts_on f ts)) (λ ss fits. parts_read ts ss fits plain) fit)
     piece_read (node (operands n) ts) s fit plain = absurd plain
     piece_read (node (successor n) ts) s fit plain = absurd plain
     piece_read (node region ts) s fit plain = absurd plain

@@ -3,21 +3,23 @@ use Rattle.std.proofs.Common.{◌≡◌, ℕ, zero, suc, ◌<◌, ◌^◌, Bool,
 use Rattle.std.specs.Prelude.{if◌then◌else◌, bytes_eq}
 use Rattle.std.specs.Char.{digit_value}
 use Rattle.std.specs.List.{list_all}
+use Rattle.std.specs.Str.{IsAscii}
 use Rattle.std.specs.Fmt.{decimal}
 use Rattle.std.specs.Str.Parse.{IsNumeral, AllDigits}
 use Rattle.std.proofs.lemmas.Fmt.{decimal_is_IsNumeral}
 use Rattle.std.proofs.lemmas.List.{append_assoc, append-nil}
 use Rattle.std.proofs.lemmas.Bool.{eqb-true}
+use Rattle.std.proofs.lemmas.Str.Ascii.{IsAscii-nil, IsAscii-cons}
 use Rattle.std.proofs.lemmas.Slice.Eq.{bytes_eq-Decides}
 use Rattle.std.proofs.lemmas.Bool.Decides.{nat_tests}
 use Rattle.ir_names.specs.declared.kinds.Signedness.{Signedness}
 use Rattle.ir_names.specs.declared.kinds.Signedness.TheVariants.{Signless, Signed, Unsigned}
 use Rattle.ir_names.specs.Text.{is_identifier}
-use Rattle.ir_print.specs.Layout.{width_text, number_text}
+use Rattle.ir_print.specs.Layout.{width_text, number_text, in_quotes}
 use Rattle.ir_tokens.specs.Tokens.{is_letter, is_digit, is_name_char, is_sign}
 use Rattle.ir_formats.specs.Words.{is_width}
 use Rattle.ir_rereading.specs.Printable.{ends_name, is_word, less_spaces, is_before_spaces, begins_apart, ends_apart}
-use Rattle.ir_rereading.proofs.layouts.Lexemes.{falls, clash, Lexeme, Word, Dotted, Digits, Negative, Sign, Arrow, text_of, is_name, are_digits, is_spelled, begins, has_front, is_fresh, is_break, is_clean, stops, is_blank, Lexes, skipped, taken}
+use Rattle.ir_rereading.proofs.layouts.Lexemes.{falls, clash, Lexeme, Word, Dotted, Digits, Negative, Sign, Arrow, Quoted, is_plain, lexeme_ascii, text_of, is_name, are_digits, is_spelled, begins, has_front, is_fresh, is_break, is_clean, stops, is_blank, Lexes, skipped, taken}
 use Rattle.ir_formats.proofs.Booleans.{both_hold}
 
 -- ---- characters and tokens, one after the other
@@ -132,6 +134,7 @@ fresh_lexeme (Digits d) cs h k = fresh_word d cs (digits_all d h) k
 fresh_lexeme (Negative d) cs h k = refl
 fresh_lexeme (Sign c) cs h k = fails_first (105 == c) _ (sign_no_in c h)
 fresh_lexeme Arrow cs h k = refl
+fresh_lexeme (Quoted q) cs h k = refl
 
 stops_next : (t : Lexeme) {cs : List ℕ} {xs : List (List ℕ)} → Follows cs xs → stops t cs ≡ true
 stops_next (Word w) n = n.clean
@@ -140,12 +143,18 @@ stops_next (Digits d) n = n.clean
 stops_next (Negative d) n = n.clean
 stops_next (Sign c) n = n.opens.fresh
 stops_next Arrow n = refl
+stops_next (Quoted q) n = n.clean
 
 -- The text is a token.
 pub record IsLexeme (x : List ℕ) : Type 0 where
   pub form : Lexeme
   pub same : text_of form ≡ x
   pub spelled : is_spelled form ≡ true
+  pub unquoted : is_plain form ≡ true
+
+-- its characters are ASCII
+pub lexeme_text : (x : List ℕ) → IsLexeme x → IsAscii x
+lexeme_text x t = subst IsAscii t.same (lexeme_ascii t.form t.spelled t.unquoted)
 
 -- a token, before what stops it
 pub lexeme_opens : (x : List ℕ) {cs : List ℕ} {xs : List (List ℕ)} → IsLexeme x → Follows cs xs → Opens (x ++ cs) (x ∷ xs)
@@ -153,6 +162,10 @@ lexeme_opens x {cs} t n = record {
   read = taken t.form x t.same t.spelled (stops_next t.form n) n.opens.read;
   fresh = subst (λ z. is_fresh (z ++ cs) ≡ true) t.same (fresh_lexeme t.form cs t.spelled n.clean);
 }
+
+-- a text in quotes, before what stops every token
+pub quoted_opens : (q : List ℕ) {cs : List ℕ} {xs : List (List ℕ)} → Follows cs xs → Opens (in_quotes q ++ cs) (in_quotes q ∷ xs)
+quoted_opens q n = record { read = taken (Quoted q) (in_quotes q) refl refl n.clean n.opens.read; fresh = refl }
 
 sign_break : (c : ℕ) → is_sign c ≡ true → is_break c ≡ true
 sign_break c h = grind (arith, nat_tests)
@@ -199,7 +212,7 @@ spaces_open (suc n) o = (blank_follows 32 refl (spaces_open n o)).opens
 -- identifiers are names
 pub identifier_is : (x : List ℕ) → is_identifier x ≡ true → IsLexeme x
 identifier_is [] h = absurd (let t : false ≡ true = h in cc)
-identifier_is (c ∷ cs) h = record { form = Word (c ∷ cs); same = refl; spelled = h }
+identifier_is (c ∷ cs) h = record { form = Word (c ∷ cs); same = refl; spelled = h; unquoted = refl }
 
 digit_is : (c : ℕ) → digit_value c < 10 → is_digit c ≡ true
 digit_is c h = grind (arith, nat_tests)
@@ -220,14 +233,14 @@ decimal_name n h = all_from is_digit is_name_char digit_in_name (decimal n) (all
 
 -- numbers are tokens
 pub number_is : (negative : Bool) (n : ℕ) → n < 2 ^ 64 → IsLexeme (number_text negative n)
-number_is true n h = record { form = Negative (decimal n); same = refl; spelled = decimal_digits n h }
-number_is false n h = record { form = Digits (decimal n); same = refl; spelled = decimal_digits n h }
+number_is true n h = record { form = Negative (decimal n); same = refl; spelled = decimal_digits n h; unquoted = refl }
+number_is false n h = record { form = Digits (decimal n); same = refl; spelled = decimal_digits n h; unquoted = refl }
 
 -- widths are names
 pub width_is : (sign : Signedness) (n : ℕ) → n < 2 ^ 32 → IsLexeme (width_text sign n)
-width_is Signless n h = record { form = Word (width_text Signless n); same = refl; spelled = decimal_name n (omega arith) }
-width_is Signed n h = record { form = Word (width_text Signed n); same = refl; spelled = decimal_name n (omega arith) }
-width_is Unsigned n h = record { form = Word (width_text Unsigned n); same = refl; spelled = decimal_name n (omega arith) }
+width_is Signless n h = record { form = Word (width_text Signless n); same = refl; spelled = decimal_name n (omega arith); unquoted = refl }
+width_is Signed n h = record { form = Word (width_text Signed n); same = refl; spelled = decimal_name n (omega arith); unquoted = refl }
+width_is Unsigned n h = record { form = Word (width_text Unsigned n); same = refl; spelled = decimal_name n (omega arith); unquoted = refl }
 
 -- ---- words of formats
 
@@ -283,8 +296,8 @@ names_run_on dot c (d ∷ e ∷ cs) n h = go (d == 46) h (names_run_on true e cs
     go false g first second = let b = both_hold (is_name_char d) (ends_name dot (e ∷ cs)) g in second b.0 b.1
 
 named_form : (c : ℕ) (cs : List ℕ) → is_letter c ≡ true → Tail cs → IsLexeme (c ∷ cs)
-named_form c cs l (plain h) = record { form = Word (c ∷ cs); same = refl; spelled = rw l h }
-named_form c cs l (dotted f b e h g) = record { form = Dotted (c ∷ f) b; same = ap (λ z. c ∷ z) (sym e); spelled = rw (l, h) g }
+named_form c cs l (plain h) = record { form = Word (c ∷ cs); same = refl; spelled = rw l h; unquoted = refl }
+named_form c cs l (dotted f b e h g) = record { form = Dotted (c ∷ f) b; same = ap (λ z. c ∷ z) (sym e); spelled = rw (l, h) g; unquoted = refl }
 
 same_text : (a b : List ℕ) → bytes_eq a b ≡ true → a ≡ b
 same_text a b e = (bytes_eq-Decides a b).0 e
@@ -308,8 +321,8 @@ word_is (c ∷ cs) h = go (form_of c cs h)
   where
     go : Form c cs → IsLexeme (c ∷ cs)
     go (named l n a) = l
-    go (sign e s) = record { form = Sign c; same = ap (λ z. c ∷ z) (sym e); spelled = s }
-    go (arrow e f) = record { form = Arrow; same = ap (λ z. z ∷ 62 ∷ []) (sym e) ∙ ap (λ z. c ∷ z) (sym f); spelled = refl }
+    go (sign e s) = record { form = Sign c; same = ap (λ z. c ∷ z) (sym e); spelled = s; unquoted = refl }
+    go (arrow e f) = record { form = Arrow; same = ap (λ z. z ∷ 62 ∷ []) (sym e) ∙ ap (λ z. c ∷ z) (sym f); spelled = refl; unquoted = refl }
 
 -- what has to follow a word: where its end is none of a name, whatever can follow a sign
 abbrev pub Behind : Bool → List ℕ → List (List ℕ) → Type 0
@@ -381,6 +394,25 @@ word_opens (c ∷ ps) text cs xs h g k = go (c == 32) refl g (λ e. word_opens p
         → (is_before_spaces text (less_spaces ps) ≡ true → Opens (ps ++ cs) (text ∷ xs)) → Opens (c ∷ (ps ++ cs)) (text ∷ xs)
     go true s e more = (blank_follows c (rw s refl) (more e)).opens
     go false s e more = unspaced_opens text (c ∷ ps) cs xs h (spaces_behind text (c ∷ ps) e) k
+
+-- what is printed of it is ASCII
+pub before_ascii : (text printed : List ℕ) → IsAscii text → is_before_spaces text printed ≡ true → IsAscii printed
+before_ascii [] [] h g = IsAscii-nil
+before_ascii [] (c ∷ cs) h g =
+    let b = both_hold (c == 32) (is_before_spaces [] cs) g in
+    IsAscii-cons c cs (let same = eq_is c 32 b.0 in omega arith) (before_ascii [] cs h b.1)
+before_ascii (x ∷ xs) [] h g = absurd (let t : false ≡ true = g in cc)
+before_ascii (x ∷ xs) (c ∷ cs) h g =
+    let b = both_hold (x == c) (is_before_spaces xs cs) g in
+    IsAscii-cons c cs (let same = eq_is x c b.0 in let low = h 0 in omega arith) (before_ascii xs cs (λ i. h (suc i)) b.1)
+
+pub printed_ascii : (text printed : List ℕ) → IsAscii text → is_before_spaces text (less_spaces printed) ≡ true → IsAscii printed
+printed_ascii text [] h g = IsAscii-nil
+printed_ascii text (c ∷ cs) h g = go (c == 32) refl g (printed_ascii text cs h)
+  where
+    go : (b : Bool) → (c == 32) ≡ b → is_before_spaces text (if b then less_spaces cs else c ∷ cs) ≡ true → (is_before_spaces text (less_spaces cs) ≡ true → IsAscii cs) → IsAscii (c ∷ cs)
+    go true e g more = IsAscii-cons c cs (let same = eq_is c 32 e in omega arith) (more g)
+    go false e g more = before_ascii text (c ∷ cs) h g
 
 -- ---- what a word begins with
 

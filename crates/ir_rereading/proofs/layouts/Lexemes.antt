@@ -8,17 +8,20 @@ use Rattle.std.proofs.Math.Seq.{drop-append_seam, take-append_seam}
 use Rattle.std.proofs.lemmas.Str.{IsAscii-append}
 use Rattle.std.proofs.lemmas.Str.Ascii.{IsAscii-nil, IsAscii-cons}
 use Rattle.std.proofs.Math.ListN.{get_or-append}
+use Rattle.std.proofs.lemmas.Bool.{eqb-false}
 use Rattle.std.proofs.lemmas.Bool.Decides.{nat_tests}
 use Rattle.ir_tokens.specs.declared.tokens.TokenKind.{TokenKind}
 use Rattle.ir_tokens.specs.declared.tokens.TokenKind.TheVariants as kinds
 use Rattle.ir_tokens.specs.declared.tokens.Token as place
-use Rattle.ir_tokens.specs.Tokens.{is_letter, is_digit, is_name_char, is_sign, AreAllOfKind, IsName, AreDigits, IsInMemory, Spells, NoLonger, ReadsAs}
+use Rattle.ir_tokens.specs.Tokens.{is_letter, is_digit, is_name_char, is_sign, AreAllOfKind, IsName, AreDigits, ClosesText, IsInMemory, Spells, NoLonger, ReadsAs}
 use Rattle.ir_formats.specs.Words as words
 use Rattle.ir_rereading.proofs.layouts.Marks.{kind_of_text, has_dot, behind_minus}
-use Rattle.ir_tokens.proofs.TokenLongest.{name_longest, dotted_longest, digits_longest, negative_longest, arrow_longest, sign_longest}
+use Rattle.ir_print.specs.Layout.{escaped, in_quotes}
+use Rattle.ir_tokens.specs.Tokens.ClosesText.{closing, plain, escaped as escaped_text}
+use Rattle.ir_tokens.proofs.TokenLongest.{text_longest, name_longest, dotted_longest, digits_longest, negative_longest, arrow_longest, sign_longest}
 use Rattle.ir_tokens.proofs.TokenSteps.{gap_more, token_more, spells_after}
 use Rattle.ir_formats.proofs.Between.{digit_visible, sign_visible}
-use Rattle.ir_formats.proofs.Booleans.{both_hold}
+use Rattle.ir_formats.proofs.Booleans.{both_hold, neither_holds}
 
 -- ---- tests
 
@@ -39,6 +42,8 @@ pub data Lexeme : Type 0 where
   Negative : List ℕ → Lexeme
   Sign : ℕ → Lexeme
   Arrow : Lexeme
+  -- a text in quotes, by the characters that it says
+  Quoted : List ℕ → Lexeme
 
 -- its characters
 abbrev pub text_of : Lexeme → List ℕ
@@ -48,6 +53,7 @@ text_of (Digits digits) = digits
 text_of (Negative digits) = 45 ∷ digits
 text_of (Sign c) = c ∷ []
 text_of Arrow = 45 ∷ 62 ∷ []
+text_of (Quoted cs) = in_quotes cs
 
 -- a letter, then letters and digits
 abbrev pub is_name : List ℕ → Bool
@@ -67,6 +73,7 @@ is_spelled (Digits digits) = are_digits digits
 is_spelled (Negative digits) = are_digits digits
 is_spelled (Sign c) = is_sign c
 is_spelled Arrow = true
+is_spelled (Quoted cs) = true
 
 -- the test holds of the first character, if there is one
 abbrev pub begins : (ℕ → Bool) → List ℕ → Bool
@@ -118,6 +125,7 @@ kind_of (Digits d) = kinds.Digits
 kind_of (Negative d) = kinds.Negative
 kind_of (Sign c) = kinds.Sign c
 kind_of Arrow = kinds.Arrow
+kind_of (Quoted cs) = kinds.Text
 
 not_bad : (t : Lexeme) → kind_of t ≢ kinds.Bad
 not_bad (Word w) e = cc
@@ -126,6 +134,7 @@ not_bad (Digits d) e = cc
 not_bad (Negative d) e = cc
 not_bad (Sign c) e = cc
 not_bad Arrow e = cc
+not_bad (Quoted cs) e = cc
 
 letter_name : (c : ℕ) → is_letter c ≡ true → is_name_char c ≡ true
 letter_name c h = grind (arith, nat_tests)
@@ -148,6 +157,9 @@ sign_no_digit c h = grind (arith, nat_tests)
 sign_no_minus : (c : ℕ) → is_sign c ≡ true → (c == 45) ≡ false
 sign_no_minus c h = grind (arith, nat_tests)
 
+sign_no_quote : (c : ℕ) → is_sign c ≡ true → (c == 34) ≡ false
+sign_no_quote c h = grind (arith, nat_tests)
+
 no_dots : (cs : List ℕ) → list_all is_name_char cs ≡ true → has_dot cs ≡ false
 no_dots [] h = refl
 no_dots (c ∷ cs) h = let b = both_hold (is_name_char c) (list_all is_name_char cs) h in rw (name_no_dot c b.0) (no_dots cs b.1)
@@ -166,7 +178,7 @@ a_word false d e k h g = absurd (let t : false ≡ true = h in cc)
 
 -- the kind of what begins with no letter
 abbrev other_sort : ℕ → List ℕ → TokenKind
-other_sort c cs = if is_digit c then kinds.Digits else (if c == 45 then behind_minus cs else kinds.Sign c)
+other_sort c cs = if is_digit c then kinds.Digits else (if c == 45 then behind_minus cs else (if c == 34 then kinds.Text else kinds.Sign c))
 
 -- the kind of a token is seen from its characters
 pub sort_is : (t : Lexeme) → is_spelled t ≡ true → kind_of_text (text_of t) ≡ kind_of t
@@ -186,8 +198,9 @@ sort_is (Negative []) h = absurd (let t : false ≡ true = h in cc)
 sort_is (Negative (c ∷ d)) h =
     let g = (both_hold (is_digit c) (list_all is_digit d) h).0 in
     rw (digit_no_greater c g) refl
-sort_is (Sign c) h = rw (sign_no_letter c h, sign_no_digit c h, sign_no_minus c h) refl
+sort_is (Sign c) h = rw (sign_no_letter c h, sign_no_digit c h, sign_no_minus c h, sign_no_quote c h) refl
 sort_is Arrow h = refl
+sort_is (Quoted cs) h = refl
 
 -- ---- tokens at their places
 
@@ -278,6 +291,30 @@ not_memory : (whole : List ℕ) (i c : ℕ) (cs : List ℕ) → IsRest whole i (
 not_memory whole i c cs r e m =
     clash (has_front (codes "in-memory>") cs) (front_from (codes "in-memory>") cs refl (λ n lt. sym (r.at (suc n)) ∙ m (suc n) (omega arith))) (falls (has_front (codes "in-memory>") cs) e)
 
+-- what is escaped goes up to the closing `"`
+quote_closes : (whole : List ℕ) (i j : ℕ) (cs rest : List ℕ) → IsRest whole i ((escaped cs ++ 34 ∷ []) ++ rest) → j ≡ i + length (escaped cs ++ 34 ∷ []) → ClosesText whole i j
+quote_closes whole i j [] rest r e = closing (first_in whole i 34 rest r) (omega (arith, e))
+quote_closes whole i j (c ∷ cs) rest r e = go (c == 34 || c == 92) (c == 34) (c == 92) refl refl refl (λ i j r e. quote_closes whole i j cs rest r e) r e
+  where
+    tail : List ℕ
+    tail = escaped cs ++ 34 ∷ []
+
+    go : (b f g : Bool) → (c == 34 || c == 92) ≡ b → (c == 34) ≡ f → (c == 92) ≡ g
+        → ((i j : ℕ) → IsRest whole i (tail ++ rest) → j ≡ i + length tail → ClosesText whole i j)
+        → IsRest whole i (((if b then 92 ∷ c ∷ escaped cs else c ∷ escaped cs) ++ 34 ∷ []) ++ rest)
+        → j ≡ i + length ((if b then 92 ∷ c ∷ escaped cs else c ∷ escaped cs) ++ 34 ∷ []) → ClosesText whole i j
+    go true f g special front back closes r e =
+        let l : length (92 ∷ c ∷ tail) ≡ suc (suc (length tail)) = refl in
+        escaped_text (first_in whole i 92 (c ∷ tail ++ rest) r) refl
+        (closes (i + 2) j (past whole i (92 ∷ c ∷ []) (tail ++ rest) r) (omega (arith, e, l)))
+    go false true g special front back closes r e = let wrong : true ≡ false = sym front ∙ (neither_holds (c == 34) (c == 92) special).0 in cc
+    go false false true special front back closes r e = let wrong : true ≡ false = sym back ∙ (neither_holds (c == 34) (c == 92) special).1 in cc
+    go false false false special front back closes r e =
+        let first : slice_index whole i ≡ c = first_in whole i c (tail ++ rest) r in
+        let l : length (c ∷ tail) ≡ suc (length tail) = refl in
+        plain (rw first (eqb-false c 34 front)) (rw first (eqb-false c 92 back)) refl
+        (closes (i + 1) j (past whole i (c ∷ []) (tail ++ rest) r) (omega (arith, e, l)))
+
 here : (whole : List ℕ) (i : ℕ) (t : Lexeme) (cs : List ℕ) → IsRest whole i (text_of t ++ cs) → is_spelled t ≡ true → stops t cs ≡ true → IsHere whole i t
 here whole i (Word []) cs r s e = absurd (let t : false ≡ true = s in cc)
 here whole i (Word (c ∷ w)) cs r s e =
@@ -340,6 +377,11 @@ here whole i (Sign c) cs r s e =
 here whole i Arrow cs r s e =
     let first : slice_index whole i ≡ 45 = first_in whole i 45 (62 ∷ cs) r in
     record { visible = ap is_whitespace first; spelled = (first, r.at 1, refl); longest = arrow_longest whole i first (r.at 1) }
+here whole i (Quoted q) cs r s e =
+    let first : slice_index whole i ≡ 34 = first_in whole i 34 ((escaped q ++ 34 ∷ []) ++ cs) r in
+    let l : length (in_quotes q) ≡ suc (length (escaped q ++ 34 ∷ [])) = refl in
+    let closes = quote_closes whole (i + 1) (i + length (in_quotes q)) q cs (past whole i (34 ∷ []) ((escaped q ++ 34 ∷ []) ++ cs) r) (omega (arith, l)) in
+    record { visible = ap is_whitespace first; spelled = (first, closes); longest = text_longest whole i (i + length (in_quotes q)) first closes }
 
 -- the token's characters stand there
 here_text : (whole : List ℕ) (i : ℕ) (t : Lexeme) (cs : List ℕ) → IsRest whole i (text_of t ++ cs) → words.text_of whole (placed i t) ≡ text_of t
@@ -422,6 +464,7 @@ stops_line (Digits d) cs h = clean_line cs h
 stops_line (Negative d) cs h = clean_line cs h
 stops_line (Sign c) cs h = fresh_line cs h
 stops_line Arrow cs h = refl
+stops_line (Quoted q) cs h = clean_line cs h
 
 -- a line end behind a text adds no token
 pub lined : {cs : List ℕ} {xs : List (List ℕ)} → Lexes cs xs → Lexes (cs ++ 10 ∷ []) xs
@@ -441,11 +484,8 @@ name_low c h = grind (arith, nat_tests)
 digit_low : (c : ℕ) → is_digit c ≡ true → c < 128
 digit_low c h = grind (arith, nat_tests)
 
-sign_low : (c : ℕ) → is_sign c ≡ true → c < 128
+pub sign_low : (c : ℕ) → is_sign c ≡ true → c < 128
 sign_low c h = grind (arith, nat_tests)
-
-blank_low : (c : ℕ) → is_blank c ≡ true → c < 128
-blank_low c h = grind (arith, nat_tests)
 
 name_ascii : (cs : List ℕ) → is_name cs ≡ true → IsAscii cs
 name_ascii [] h = IsAscii-nil
@@ -455,16 +495,16 @@ digits_ascii : (cs : List ℕ) → are_digits cs ≡ true → IsAscii cs
 digits_ascii [] h = IsAscii-nil
 digits_ascii (c ∷ cs) h = all_ascii is_digit digit_low (c ∷ cs) h
 
-lexeme_ascii : (t : Lexeme) → is_spelled t ≡ true → IsAscii (text_of t)
-lexeme_ascii (Word w) h = name_ascii w h
-lexeme_ascii (Dotted f b) h = let s = both_hold (is_name f) (is_name b) h in IsAscii-append f (46 ∷ b) (name_ascii f s.0) (IsAscii-cons 46 b (omega arith) (name_ascii b s.1))
-lexeme_ascii (Digits d) h = digits_ascii d h
-lexeme_ascii (Negative d) h = IsAscii-cons 45 d (omega arith) (digits_ascii d h)
-lexeme_ascii (Sign c) h = IsAscii-cons c [] (sign_low c h) IsAscii-nil
-lexeme_ascii Arrow h = IsAscii-cons 45 (62 ∷ []) (omega arith) (IsAscii-cons 62 [] (omega arith) IsAscii-nil)
+-- a token that is no text in quotes
+abbrev pub is_plain : Lexeme → Bool
+is_plain (Quoted cs) = false
+is_plain _ = true
 
--- all characters of tokens and of the white space between them are ASCII
-pub lexes_ascii : {cs : List ℕ} {xs : List (List ℕ)} → Lexes cs xs → IsAscii cs
-lexes_ascii ended = IsAscii-nil
-lexes_ascii (skipped {cs} c w l) = IsAscii-cons c cs (blank_low c w) (lexes_ascii l)
-lexes_ascii (taken {cs} t x same s e l) = IsAscii-append x cs (subst IsAscii same (lexeme_ascii t s)) (lexes_ascii l)
+pub lexeme_ascii : (t : Lexeme) → is_spelled t ≡ true → is_plain t ≡ true → IsAscii (text_of t)
+lexeme_ascii (Word w) h p = name_ascii w h
+lexeme_ascii (Dotted f b) h p = let s = both_hold (is_name f) (is_name b) h in IsAscii-append f (46 ∷ b) (name_ascii f s.0) (IsAscii-cons 46 b (omega arith) (name_ascii b s.1))
+lexeme_ascii (Digits d) h p = digits_ascii d h
+lexeme_ascii (Negative d) h p = IsAscii-cons 45 d (omega arith) (digits_ascii d h)
+lexeme_ascii (Sign c) h p = IsAscii-cons c [] (sign_low c h) IsAscii-nil
+lexeme_ascii Arrow h p = IsAscii-cons 45 (62 ∷ []) (omega arith) (IsAscii-cons 62 [] (omega arith) IsAscii-nil)
+lexeme_ascii (Quoted cs) h p = absurd (let t : false ≡ true = p in cc)

@@ -2,7 +2,8 @@
 use Rattle.std.proofs.Common.{◌≡◌, ℕ, List, [], ◌∷◌, ◌++◌, Option, Some, None, true, map, refl, sym, subst, ap, inl, inr, append_assoc, slice_get}
 use Rattle.ir_print.specs.Formats as step
 use Rattle.ir_print.specs.Formats.{Formats, Kind, Step, Steps, no_steps}
-use Rattle.ir_print.specs.Layout.{Before, an_id, a_word, a_part}
+use Rattle.ir_print.specs.Layout.{Before, an_id, a_word, a_part, leaf_text}
+use Rattle.ir_print.specs.Pieces.{Leaf}
 use Rattle.ir_print.specs.Shapes.{parts_in}
 use Rattle.ir_grammar.specs.declared.grammar.Action.{Action}
 use Rattle.ir_grammar.specs.declared.grammar.Action.TheVariants as act
@@ -12,7 +13,7 @@ use Rattle.ir_grammar.specs.declared.grammar.Grammar.{Grammar}
 use Rattle.ir_formats.specs.declared.rules.Sort.{Sort}
 use Rattle.ir_grammar.specs.Grammar.{accepts, Derives, Shifted, Acted, Expanded}
 use Rattle.ir_formats.specs.Rules.{IsGrammarOf, sign, words_in_step, words_in, words_of, step_made, steps_made, part_of, begin_of, end_of, kinds_of, rules_of, plain_rules}
-use Rattle.ir_rereading.proofs.layouts.Marks.{Mark, white, token, word, did, Marker, tokens, events, kind_by, format_on, kind_on}
+use Rattle.ir_rereading.proofs.layouts.Marks.{Mark, white, token, word, one_leaf, did, Marker, tokens, events, kind_by, format_on, kind_on}
 use Rattle.ir_rereading.proofs.layouts.Among.{IsAmong, AreAmong, fronts_among, backs_among, kind_among}
 use Rattle.ir_rereading.proofs.layouts.PlainWords.{Tested}
 use Rattle.ir_rereading.proofs.layouts.PlainKinds.{word_accepted}
@@ -26,6 +27,10 @@ pub record DerivesMarks (g : Grammar) (f : Formats) (ss : List Symbol) (ms : Lis
 
 pub shift : {g : Grammar} {f : Formats} {s : ℕ} {ss : List Symbol} {cs : List ℕ} {ms : List Mark} → accepts g s (kind_by (words_of f) cs) ≡ true → DerivesMarks g f ss ms → DerivesMarks g f (Sign s ∷ ss) (token cs ∷ ms)
 shift a d = record { derived = Shifted a d.derived }
+
+pub shift_leaf : {g : Grammar} {f : Formats} {s : ℕ} {ss : List Symbol} {x : Leaf} {ms : List Mark} → accepts g s (kind_by (words_of f) (leaf_text x)) ≡ true → DerivesMarks g f ss ms
+    → DerivesMarks g f (Sign s ∷ ss) (one_leaf x ∷ ms)
+shift_leaf a d = record { derived = Shifted a d.derived }
 
 pub shift_word : {g : Grammar} {f : Formats} {s : ℕ} {ss : List Symbol} {printed text : List ℕ} {ms : List Mark} → accepts g s (kind_by (words_of f) text) ≡ true → DerivesMarks g f ss ms
     → DerivesMarks g f (Sign s ∷ ss) (word printed text ∷ ms)

@@ -4,8 +4,8 @@ use Rattle.ir_names.specs.Tree.{node, no_tree, a_tree}
 use Rattle.ir_print.specs.Formats as step
 use Rattle.ir_print.specs.Formats.{Formats, Kind, Step, Steps, no_steps, kinds_of}
 use Rattle.ir_print.specs.Layout as layout
-use Rattle.ir_print.specs.Layout.{Chunk, Before, an_id, a_word, a_part, gap_of_word, gap_of_part, space, line, word_of, member_of, leaf_text}
-use Rattle.ir_print.specs.Pieces.{value_of_kind, list, item, operands, successor, region, leaf, ValueTree, Pieces, EntityHead, operation, a_region, block, Entity, entity, Entities, no_entity, an_entity}
+use Rattle.ir_print.specs.Layout.{Chunk, Before, an_id, a_word, a_part, gap_of_word, gap_of_part, space, line, word_of, member_of, alternative_of, leaf_text, leaf_chunk}
+use Rattle.ir_print.specs.Pieces.{value_of_kind, list, item, chosen, operands, successor, region, Leaf, leaf, ValueTree, Pieces, EntityHead, operation, a_region, block, Entity, entity, Entities, no_entity, an_entity}
 use Rattle.ir_print.specs.Shapes.{sort_of}
 use Rattle.ir_grammar.specs.declared.grammar.Action.{Action}
 use Rattle.ir_grammar.specs.declared.grammar.Action.TheVariants as act
@@ -19,7 +19,6 @@ use Rattle.ir_formats.specs.Rules.{number_of}
 use Rattle.ir_formats.specs.Words.{is_spelled, word_kind, shape_kind}
 use Rattle.ir_forest.specs.Closed.{names_of}
 use Rattle.std.specs.List.{list_any}
-use Rattle.ir_print.specs.declared.format.LeafSort.{LeafSort}
 use Rattle.ir_print.specs.declared.format.ValueSort.TheVariants as sorts
 use Rattle.std.specs.Prelude.{◌==◌, if◌then◌else◌, length}
 
@@ -28,6 +27,8 @@ pub data Mark : Type 0 where
   white : List ℕ → Mark
   token : List ℕ → Mark
   word : (printed text : List ℕ) → Mark
+  -- the token of a leaf
+  one_leaf : Leaf → Mark
   did : Action → Mark
 
 -- the chunks among marks
@@ -36,6 +37,7 @@ chunks [] = []
 chunks (white cs ∷ ms) = layout.white cs ∷ chunks ms
 chunks (token cs ∷ ms) = layout.token cs ∷ chunks ms
 chunks (word printed text ∷ ms) = layout.word printed text ∷ chunks ms
+chunks (one_leaf x ∷ ms) = leaf_chunk x ∷ chunks ms
 chunks (did a ∷ ms) = chunks ms
 
 -- the characters of marks
@@ -44,6 +46,7 @@ characters [] = []
 characters (white cs ∷ ms) = cs ++ characters ms
 characters (token cs ∷ ms) = cs ++ characters ms
 characters (word printed text ∷ ms) = printed ++ characters ms
+characters (one_leaf x ∷ ms) = leaf_text x ++ characters ms
 characters (did a ∷ ms) = characters ms
 
 -- their tokens
@@ -52,6 +55,7 @@ tokens [] = []
 tokens (white cs ∷ ms) = tokens ms
 tokens (token cs ∷ ms) = cs ∷ tokens ms
 tokens (word printed text ∷ ms) = text ∷ tokens ms
+tokens (one_leaf x ∷ ms) = leaf_text x ∷ tokens ms
 tokens (did a ∷ ms) = tokens ms
 
 -- what reading them does
@@ -60,6 +64,7 @@ events [] = []
 events (white cs ∷ ms) = events ms
 events (token cs ∷ ms) = Took ∷ events ms
 events (word printed text ∷ ms) = Took ∷ events ms
+events (one_leaf x ∷ ms) = Took ∷ events ms
 events (did a ∷ ms) = Did a ∷ events ms
 
 -- ---- formats
@@ -90,14 +95,19 @@ kind_on (Some k) begins ends ps rest = token k.id ∷ did begins ∷ format_on a
 
 -- ---- types and attributes
 
--- a leaf of a sort, with these characters
-abbrev pub leaf_on : Step → LeafSort → List ℕ → List Mark → List Mark
-leaf_on step.symbol_name sort cs rest = token (codes "@") ∷ token cs ∷ did (act.Leaf sort) ∷ rest
-leaf_on _ sort cs rest = token cs ∷ did (act.Leaf sort) ∷ rest
+-- a leaf
+abbrev pub leaf_on : Step → Leaf → List Mark → List Mark
+leaf_on step.symbol_name x rest = token (codes "@") ∷ one_leaf x ∷ did (act.Leaf (sort_of x)) ∷ rest
+leaf_on _ x rest = one_leaf x ∷ did (act.Leaf (sort_of x)) ∷ rest
 
 abbrev pub separator_of : Step → Mark
 separator_of (step.list_of member printed text) = word printed text
 separator_of _ = white []
+
+-- what a format says, if there is one
+abbrev pub some_format_on : Option Steps → List (Option Marker) → List Mark → List Mark
+some_format_on None ps rest = rest
+some_format_on (Some ss) ps rest = format_on a_word ss ps rest
 
 abbrev pub some_on : Option Marker → Marker
 some_on None s rest = rest
@@ -116,10 +126,11 @@ abbrev mutual
   piece_on f (node (value_of_kind sort n) ts) s rest = kind_on (slice_get (kinds_of f sort) n) (act.Begin sort n) (act.End sort) (parts_on f ts) rest
   piece_on f (node list ts) s rest = did act.BeginList ∷ members_on s (parts_on f ts) (did act.EndList ∷ rest)
   piece_on f (node item ts) s rest = did act.BeginItem ∷ format_on a_word (member_of s) (parts_on f ts) (did act.EndItem ∷ rest)
+  piece_on f (node (chosen n) ts) s rest = did (act.BeginChoice n) ∷ some_format_on (alternative_of s n) (parts_on f ts) (did act.EndChoice ∷ rest)
   piece_on f (node (operands n) ts) s rest = rest
   piece_on f (node (successor n) ts) s rest = rest
   piece_on f (node region ts) s rest = rest
-  piece_on f (node (leaf x) ts) s rest = leaf_on s (sort_of x) (leaf_text x) rest
+  piece_on f (node (leaf x) ts) s rest = leaf_on s x rest
 
   pub parts_on : Formats → Pieces → List (Option Marker)
   parts_on f no_tree = []
@@ -253,7 +264,7 @@ behind_minus (c ∷ cs) = if c == 62 then kinds.Arrow else kinds.Negative
 abbrev pub kind_of_text : List ℕ → TokenKind
 kind_of_text [] = kinds.Bad
 kind_of_text (c ∷ cs) = if is_letter c then (if has_dot cs then kinds.Dotted else kinds.Name)
-    else (if is_digit c then kinds.Digits else (if c == 45 then behind_minus cs else kinds.Sign c))
+    else (if is_digit c then kinds.Digits else (if c == 45 then behind_minus cs else (if c == 34 then kinds.Text else kinds.Sign c)))
 
 -- its kind in a grammar with these words
 abbrev pub kind_by : List (List ℕ) → List ℕ → ℕ

@@ -7,15 +7,15 @@ use Rattle.std.proofs.lemmas.Bool.Decides.{nat_tests}
 use Rattle.std.proofs.lemmas.Slice.Eq.{bytes_eq-Decides}
 use Rattle.std.proofs.lemmas.Str.{chars-IsAscii}
 use Rattle.ir_print.specs.Formats as step
-use Rattle.ir_print.specs.Formats.{Formats, Kind, Step, Steps, no_steps}
+use Rattle.ir_print.specs.Formats.{Formats, Kind, Step, Steps, no_steps, Choices, no_choice, a_choice}
 use Rattle.ir_formats.specs.declared.rules.Sort.{Sort}
 use Rattle.ir_formats.specs.declared.rules.Sort.TheVariants as sort
 use Rattle.ir_tokens.specs.declared.tokens.TokenKind.{TokenKind}
 use Rattle.ir_tokens.specs.declared.tokens.TokenKind.TheVariants as kinds
 use Rattle.ir_tokens.specs.Tokens.{is_letter, is_digit, is_name_char, is_sign}
 use Rattle.ir_formats.specs.Words.{is_width, is_spelled}
-use Rattle.ir_formats.specs.Rules.{words_in_step, words_in, words_of, parts_of, kinds_of, frame_words}
-use Rattle.ir_rereading.specs.Printable.{ends_name, is_word, less_spaces, is_before_spaces, is_printed, BoundaryBefore, apart, part, behind, begins_apart, ends_apart, may_follow, may_take, is_step_apart, are_steps_apart, is_kind_printable, is_printable}
+use Rattle.ir_formats.specs.Rules.{words_in_step, words_in, words_in_choices, words_of, parts_of, kinds_of, frame_words}
+use Rattle.ir_rereading.specs.Printable.{ends_name, is_word, less_spaces, is_before_spaces, is_printed, BoundaryBefore, apart, part, behind, begins_apart, ends_apart, may_follow, may_take, is_step_apart, are_steps_apart, are_choices_apart, is_kind_printable, is_printable}
 use Rattle.ir_rereading.proofs.layouts.Marks.{has_dot, behind_minus, kind_of_text}
 use Rattle.ir_rereading.proofs.layouts.Among.{IsAmong, among_either, WordFrom, of_frame, of_kind, word_source}
 use Rattle.ir_formats.proofs.Booleans.{both_hold}
@@ -87,6 +87,7 @@ mutual
   step_words (step.list_of member printed text) w h own (inr i) =
       let t = list_tests (is_printed printed text) (begins_apart printed) (ends_apart printed) (are_steps_apart part member) h in
       steps_words member part w t.1 i
+  step_words (step.choice_of cs) w h own i = choices_words cs w h i
   step_words _ w h own i = absurd i
 
   steps_words : (ss : Steps) (edge : BoundaryBefore) (w : List ℕ) → are_steps_apart edge ss ≡ true → IsAmong w (words_in ss) → is_word w ≡ true
@@ -102,6 +103,15 @@ mutual
       elim (among_either w (words_in_step s) (words_in ss) i) [
         | inl j ↦ step_words s w t.1 (λ printed text e. cc) j
         | inr j ↦ steps_words ss part w t.2 j
+      ]
+
+  choices_words : (cs : Choices) (w : List ℕ) → are_choices_apart cs ≡ true → IsAmong w (words_in_choices cs) → is_word w ≡ true
+  choices_words no_choice w h i = absurd i
+  choices_words (a_choice ss cs) w h i =
+      let t = both_hold (are_steps_apart apart ss) (are_choices_apart cs) h in
+      elim (among_either w (words_in ss) (words_in_choices cs) i) [
+        | inl j ↦ steps_words ss apart w t.0 j
+        | inr j ↦ choices_words cs w t.1 j
       ]
 
 frame_word : (w : List ℕ) → IsAmong w frame_words → is_word w ≡ true
@@ -201,10 +211,13 @@ form_ascii (lettered {c} {cs} a b) = ascii_more c cs (letter_ascii c a) (end_asc
 form_ascii (signed {c} a) = ascii_more c [] (sign_ascii c a) ascii_none
 form_ascii arrow = ascii_more 45 (62 ∷ []) (omega arith) (ascii_more 62 [] (omega arith) ascii_none)
 
+pub word_ascii : (w : List ℕ) → is_word w ≡ true → IsAscii w
+word_ascii w h = form_ascii (word_form w h)
+
 plain_all : (ws : List (List ℕ)) → ((w : List ℕ) → IsAmong w ws → is_word w ≡ true) → map chars ws ≡ ws
 plain_all [] h = refl
 plain_all (w ∷ ws) h =
-    let one : chars w ≡ w = chars-IsAscii w (form_ascii (word_form w (h w (inl refl)))) in
+    let one : chars w ≡ w = chars-IsAscii w (word_ascii w (h w (inl refl))) in
     let rest : map chars ws ≡ ws = plain_all ws (λ v i. h v (inr i)) in
     ap (λ x. x ∷ map chars ws) one ∙ ap (λ xs. w ∷ xs) rest
 
@@ -218,7 +231,7 @@ sort_sign : (c : ℕ) → is_sign c ≡ true → is_spelled (kind_of_text (c ∷
 sort_sign c h = sign_by (λ x. is_spelled (kind_of_text (x ∷ []))) c (codes "{}()[]<>,;:=@^?") refl h
 
 sort_letter : (c : ℕ) (cs : List ℕ) → is_letter c ≡ true → is_spelled (kind_of_text (c ∷ cs)) ≡ true
-sort_letter c cs h = go (is_letter c) (has_dot cs) (if is_digit c then kinds.Digits else (if c == 45 then behind_minus cs else kinds.Sign c)) h
+sort_letter c cs h = go (is_letter c) (has_dot cs) (if is_digit c then kinds.Digits else (if c == 45 then behind_minus cs else (if c == 34 then kinds.Text else kinds.Sign c))) h
   where
     go : (a b : Bool) (k : TokenKind) → a ≡ true → is_spelled (if a then (if b then kinds.Dotted else kinds.Name) else k) ≡ true
     go true true k e = refl

@@ -1,24 +1,25 @@
 -- What types, attributes and operations say derives from the formats' grammar.
-use Rattle.std.proofs.Common.{◌≡◌, ℕ, zero, suc, List, [], ◌∷◌, ◌++◌, Some, Bool, true, false, ◌&&◌, codes, slice_get, refl, sym, subst, ap, ◌∙◌, inl, inr}
+use Rattle.std.proofs.Common.{◌≡◌, ℕ, zero, suc, ◌+◌, arith, List, [], ◌∷◌, ◌++◌, Option, Some, Bool, true, false, ◌&&◌, codes, slice_get, refl, sym, subst, ap, ◌∙◌, inl, inr}
 use Rattle.std.specs.List.{list_all}
 use Rattle.ir_names.specs.Tree.{node, no_tree, a_tree}
 use Rattle.ir_print.specs.Formats as step
-use Rattle.ir_print.specs.Formats.{Formats, Kind, Step, Steps, no_steps, kinds_of}
-use Rattle.ir_print.specs.Layout.{a_word, leaf_text}
-use Rattle.ir_print.specs.Pieces.{value_of_kind, list, item, operands, successor, region, Leaf, leaf, name, number, width, ValueTree, Pieces, Values}
+use Rattle.ir_print.specs.Formats.{Formats, Kind, Step, Steps, no_steps, Choices, no_choice, a_choice, alternative, kinds_of}
+use Rattle.ir_print.specs.Layout.{a_word}
+use Rattle.ir_print.specs.Pieces.{value_of_kind, list, item, chosen, operands, successor, region, Leaf, leaf, name, number, unsigned, width, quoted, ValueTree, Pieces, Values}
 use Rattle.ir_print.specs.Shapes.{parts_in, sort_of, TakesLeaf, IsInRange, TakesOperands, Fits, FitAll, FitMembers, FitsMember}
 use Rattle.ir_grammar.specs.declared.grammar.Action.TheVariants as act
 use Rattle.ir_grammar.specs.declared.grammar.Symbol.{Symbol}
 use Rattle.ir_grammar.specs.declared.grammar.Symbol.TheVariants.{Part, Act}
 use Rattle.ir_grammar.specs.declared.grammar.Grammar.{Grammar}
 use Rattle.ir_formats.specs.declared.rules.Sort.TheVariants as sort
-use Rattle.ir_formats.specs.Rules.{IsGrammarOf, up, sign, value_part, leaf_sign, several, words_of, steps_made, rules_of}
+use Rattle.ir_formats.specs.Rules.{IsGrammarOf, PlainRule, up, sign, value_part, leaf_sign, several, words_of, words_in, words_in_choices, steps_made, alternative_made, choices_made, rules_of}
 use Rattle.ir_rereading.specs.Outer.{is_value_step, are_value_steps, is_plain_step, are_plain_steps, has_outer_operands}
-use Rattle.ir_rereading.proofs.layouts.Marks.{Mark, token, word, did, kind_on, members_on, more_members_on, piece_on, parts_on}
+use Rattle.ir_rereading.proofs.layouts.Marks.{Mark, token, word, one_leaf, did, Marker, format_on, some_format_on, kind_on, members_on, more_members_on, piece_on, parts_on}
+use Rattle.ir_rereading.proofs.Alternatives.{known_format, value_alternative}
 use Rattle.ir_rereading.proofs.layouts.Among.{IsAmong, AreAmong, among_front, among_back}
 use Rattle.ir_rereading.proofs.layouts.PlainWords.{Tested}
-use Rattle.ir_rereading.proofs.layouts.PlainKinds.{name_accepted, width_accepted, number_accepted}
-use Rattle.ir_rereading.proofs.layouts.MarkSteps.{DerivesMarks, shift, acted, regroup, expand, Placed, AllPlaced, IsReadAt, AreReadAt, took, took_word, format_reads, kind_reads}
+use Rattle.ir_rereading.proofs.layouts.PlainKinds.{name_accepted, width_accepted, number_accepted, digits_accepted, quotation_accepted}
+use Rattle.ir_rereading.proofs.layouts.MarkSteps.{DerivesMarks, shift_leaf, acted, regroup, expand, Placed, AllPlaced, IsReadAt, AreReadAt, took, took_word, format_reads, kind_reads}
 use Rattle.ir_print.specs.declared.format.ValueSort.{ValueSort}
 use Rattle.ir_print.specs.declared.format.ValueSort.TheVariants as sorts
 use Rattle.ir_formats.proofs.Booleans.{both_hold}
@@ -42,6 +43,7 @@ plain_in (step.step s fs) h = let t = both_hold (is_plain_step s) (are_plain_ste
 
 value_plain : (s : Step) → is_value_step s ≡ true → is_plain_step s ≡ true
 value_plain (step.list_of member printed text) h = h
+value_plain (step.choice_of cs) h = h
 value_plain _ h = refl
 
 -- the steps of types and attributes take no operands
@@ -85,6 +87,33 @@ outer f h =
       operations = λ n k e. plain_in k.format (tested_at (λ x. are_plain_steps x.format) f.operations n k t.0 e);
     }
 
+-- ---- choices
+
+-- The rule of one of several formats, and those of its lists, are among those of all.
+choice_in : (ws : List (List ℕ)) (c : ℕ) (cs : Choices) (i j m n : ℕ) (ss : Steps) → m ≡ i + j → alternative cs j ≡ Some ss → (p : ℕ) × AreAmong (alternative_made c m (steps_made ws ss p)).rules (choices_made ws c i cs n).rules
+choice_in ws c no_choice i j m n ss e at = cc
+choice_in ws c (a_choice fs cs) i zero m n ss e at =
+    let same : fs ≡ ss = let t : Some fs ≡ Some ss = at in cc in
+    let number : i ≡ m = omega (arith, e) in (
+      n,
+      record {
+        among = λ r h. among_front r (alternative_made c i (steps_made ws fs n)).rules (choices_made ws c (suc i) cs (steps_made ws fs n).next).rules
+            (subst (λ y. IsAmong r (alternative_made c y (steps_made ws fs n)).rules) (sym number) (subst (λ (y : Steps). IsAmong r (alternative_made c m (steps_made ws y n)).rules) (sym same) h));
+      },
+    )
+choice_in ws c (a_choice fs cs) i (suc j) m n ss e at =
+    let next = (steps_made ws fs n).next in
+    let r = choice_in ws c cs (suc i) j m next ss (omega (arith, e)) at in
+    (r.0, record { among = λ q h. among_back q (alternative_made c i (steps_made ws fs n)).rules (choices_made ws c (suc i) cs next).rules (r.1.among q h) })
+
+-- so are its words
+choice_words : (cs : Choices) (n : ℕ) (ss : Steps) (w : List ℕ) → alternative cs n ≡ Some ss → IsAmong w (words_in ss) → IsAmong w (words_in_choices cs)
+choice_words no_choice n ss w at i = cc
+choice_words (a_choice fs cs) zero ss w at i =
+    let same : fs ≡ ss = let t : Some fs ≡ Some ss = at in cc in
+    among_front w (words_in fs) (words_in_choices cs) (subst (λ (y : Steps). IsAmong w (words_in y)) (sym same) i)
+choice_words (a_choice fs cs) (suc n) ss w at i = among_back w (words_in fs) (words_in_choices cs) (choice_words cs n ss w at i)
+
 -- ---- lists
 
 -- The grammar has the rules of a list at this part, with this separator between members.
@@ -109,21 +138,38 @@ module _ (g : Grammar) (f : Formats) (known : IsGrammarOf f g) (t : Tested f) wh
       expand known (up n 1) body (h.rules.among (up n 1, body) (inr (inr (inr (inl refl)))))
       (took_word g f known t w ((member ++ Part (up n 1) ∷ []) ++ ss) printed ms h.word (regroup member (Part (up n 1) ∷ []) ss d))
 
+  -- What one of several formats says derives from the part of the choice, if each part of it does.
+  choice_reads : (cs : Choices) (n i : ℕ) (fs : Steps) (ps : List (Option Marker)) (ss : List Symbol) (ms : List Mark) → Placed f (step.choice_of cs) n → alternative cs i ≡ Some fs → AreReadAt g f (parts_in fs) ps
+      → DerivesMarks g f ss ms → DerivesMarks g f (Part n ∷ ss) (did (act.BeginChoice i) ∷ format_on a_word fs ps (did act.EndChoice ∷ ms))
+  choice_reads cs n i fs ps ss ms placed at r d =
+      let there = choice_in (words_of f) n cs 0 i i (up n 1) fs (omega arith) at in
+      let m = steps_made (words_of f) fs there.0 in
+      let body = Act (act.BeginChoice i) ∷ (m.symbols ++ Act act.EndChoice ∷ []) in
+      let rule : PlainRule = (n, body) in
+      expand known n body (placed.rules.among rule (there.1.among rule (among_back rule m.rules (rule ∷ []) (inl refl))))
+      (acted (regroup m.symbols (Act act.EndChoice ∷ []) ss
+      (format_reads g f known t fs a_word there.0 ps (Act act.EndChoice ∷ ss) (did act.EndChoice ∷ ms) (record {
+        rules = record { among = λ q h. placed.rules.among q (there.1.among q (among_front q m.rules (rule ∷ []) h)) };
+        words = record { among = λ w h. placed.words.among w (choice_words cs i fs w at h) };
+      }) r (acted d))))
+
   -- ---- values
 
   module _ (v : Values) (o : Outer f) where
     -- a leaf stands for the sign of its sort
-    leaf_taken : (x : Leaf) (ss : List Symbol) (ms : List Mark) → IsInRange x → DerivesMarks g f ss ms → DerivesMarks g f (leaf_sign (sort_of x) ∷ ss) (token (leaf_text x) ∷ ms)
-    leaf_taken (name cs) ss ms e d = shift (name_accepted g f known.signs t cs e) d
-    leaf_taken (number negative magnitude) ss ms e d = shift (number_accepted g f known.signs t negative magnitude e) d
-    leaf_taken (width sign bits) ss ms e d = shift (width_accepted g f known.signs t sign bits e) d
+    leaf_taken : (x : Leaf) (ss : List Symbol) (ms : List Mark) → IsInRange x → DerivesMarks g f ss ms → DerivesMarks g f (leaf_sign (sort_of x) ∷ ss) (one_leaf x ∷ ms)
+    leaf_taken (name cs) ss ms e d = shift_leaf (name_accepted g f known.signs t cs e) d
+    leaf_taken (number negative magnitude) ss ms e d = shift_leaf (number_accepted g f known.signs t negative magnitude e) d
+    leaf_taken (unsigned magnitude) ss ms e d = shift_leaf (digits_accepted g f known.signs t magnitude e) d
+    leaf_taken (width sign bits) ss ms e d = shift_leaf (width_accepted g f known.signs t sign bits e) d
+    leaf_taken (quoted cs) ss ms e d = shift_leaf (quotation_accepted g f known.signs t cs) d
 
     leaf_read : (s : Step) (x : Leaf) (ts : Pieces) → TakesLeaf s (sort_of x) → IsInRange x → IsReadAt g f s (Some (piece_on f (node (leaf x) ts)))
     leaf_read (step.a_leaf sort) x ts h e =
         subst (λ z. IsReadAt g f (step.a_leaf z) (Some (piece_on f (node (leaf x) ts)))) (sym h) (record { reads = λ n ss ms placed d. leaf_taken x _ _ e (acted d) })
     leaf_read step.symbol_name x ts h e = record {
       reads = λ n ss ms placed d. took g f known t (codes "@") _ _ (placed.words.among (codes "@") (inl refl))
-          (subst (λ z. DerivesMarks g f (leaf_sign z ∷ Act (act.Leaf z) ∷ ss) (token (leaf_text x) ∷ did (act.Leaf (sort_of x)) ∷ ms)) (sym h) (leaf_taken x _ _ e (acted d)));
+          (subst (λ z. DerivesMarks g f (leaf_sign z ∷ Act (act.Leaf z) ∷ ss) (one_leaf x ∷ did (act.Leaf (sort_of x)) ∷ ms)) (sym h) (leaf_taken x _ _ e (acted d)));
     }
     leaf_read _ x ts h e = absurd h
 
@@ -157,6 +203,13 @@ module _ (g : Grammar) (f : Formats) (known : IsGrammarOf f g) (t : Tested f) wh
           }
       piece_read (node list ts) s h plain inner = absurd h
       piece_read (node item ts) s h plain inner = absurd h
+      piece_read (node (chosen i) ts) (step.choice_of cs) h plain inner =
+          let k = known_format (alternative cs i) (λ fs. FitAll f v fs ts) h in
+          record {
+            reads = λ n ss ms placed d. subst (λ o. DerivesMarks g f (Part n ∷ ss) (did (act.BeginChoice i) ∷ some_format_on o (parts_on f ts) (did act.EndChoice ∷ ms))) (sym k.1)
+                (choice_reads cs n i k.0 (parts_on f ts) ss ms placed k.1 (parts_read ts (parts_in k.0) k.2 (values_in k.0 (value_alternative cs i k.0 plain k.1))) d);
+          }
+      piece_read (node (chosen i) ts) s h plain inner = absurd h
       piece_read (node (operands n) ts) s h plain inner = absurd inner
       piece_read (node (successor n) ts) s h plain inner = absurd inner
       piece_read (node region ts) s h plain inner = absurd inner

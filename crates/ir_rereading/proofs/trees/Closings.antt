@@ -9,7 +9,7 @@ use Rattle.ir_grammar.specs.declared.grammar.Event.TheVariants.{Took, Did}
 use Rattle.ir_scopes.specs.declared.sites.Closing.{Closing}
 use Rattle.ir_scopes.specs.declared.sites.Frame.{Frame}
 use Rattle.ir_scopes.specs.declared.sites.Site.{Site}
-use Rattle.ir_grammar.specs.Nesting.{Position, at_root, behind_root_results, at_end, in_operation, in_operands, in_successor, in_region, in_header, in_argument, in_block, behind_results, in_value, in_list, in_item, Move, goes_to, goes_in, goes_out, nowhere, end_move, move, NestsBy}
+use Rattle.ir_grammar.specs.Nesting.{Position, at_root, behind_root_results, at_end, in_operation, in_operands, in_successor, in_region, in_header, in_argument, in_block, behind_results, in_value, in_list, in_item, in_choice, Move, goes_to, goes_in, goes_out, nowhere, end_move, move, NestsBy}
 use Rattle.ir_forest.specs.Progress.{Leads}
 use Rattle.ir_scopes.specs.Scopes.{EventPlace, beginning, behind, rest, here_behind_operation, here_behind_region, mentioned, label_mentioned, ended, each, mentions, closings, label_mentions, label_closings}
 use Rattle.ir_scopes.proofs.Apart.{get_append}
@@ -125,6 +125,7 @@ neutral (End s) (in_value sort) h = neutral_end sort s
 neutral _ (in_value sort) h = refl
 neutral _ in_list h = refl
 neutral _ in_item h = refl
+neutral _ in_choice h = refl
 
 -- ---- the scopes of one sort of names
 

@@ -9,7 +9,7 @@ use Rattle.ir_grammar.specs.declared.grammar.Action.{Action}
 use Rattle.ir_grammar.specs.declared.grammar.Action.TheVariants as act
 use Rattle.ir_grammar.specs.declared.grammar.Event.{Event}
 use Rattle.ir_grammar.specs.declared.grammar.Event.TheVariants.{Took, Did}
-use Rattle.ir_grammar.specs.Nesting.{Position, at_root, behind_root_results, at_end, in_operation, in_operands, in_successor, in_value, in_list, in_item, move, end_move, piece_move}
+use Rattle.ir_grammar.specs.Nesting.{Position, at_root, behind_root_results, at_end, in_operation, in_operands, in_successor, in_value, in_list, in_item, in_choice, move, end_move, piece_move}
 use Rattle.ir_tokens.specs.declared.faults.Fault.{Fault}
 use Rattle.ir_scopes.specs.declared.sites.Frame.{Frame}
 use Rattle.ir_scopes.specs.Scopes.{EventPlace, beginning, behind, last_token, here_after, around_after, here_behind_operation, here_behind_region, rest, is_around_root, opened_below_root, root_openings, each, fault_not_isolated, IsRootFault}
@@ -165,6 +165,8 @@ module _ (isolated : ℕ → Bool) where
       deep_bracket act.BeginList f l ts more here x y bs ds (inner here x y bs ((act.EndList, l) ∷ (deeds_in more ++ ds))) after
   deep_step act.BeginItem f l ts more w inner after here x y bs ds =
       deep_bracket act.BeginItem f l ts more here x y bs ds (inner here x y bs ((act.EndItem, l) ∷ (deeds_in more ++ ds))) after
+  deep_step (act.BeginChoice n) f l ts more w inner after here x y bs ds =
+      deep_bracket (act.BeginChoice n) f l ts more here x y bs ds (inner here x y bs ((act.EndChoice, l) ∷ (deeds_in more ++ ds))) after
   deep_step act.Result f l ts more w inner after here x y bs ds =
       deep_bracket act.Result f l ts more here x y bs ds (ap (λ us. opened here (x ∷ y ∷ bs) (deeds_in us ++ (deeds_in more ++ ds))) w.2) after
   deep_step act.Argument f l ts more w inner after here x y bs ds =
@@ -190,6 +192,7 @@ module _ (isolated : ℕ → Bool) where
   IsInner (in_value sort) = Unit {0}
   IsInner in_list = Unit {0}
   IsInner in_item = Unit {0}
+  IsInner in_choice = Unit {0}
   IsInner _ = ⊥
 
   -- nothing opens, and what is open stays so
@@ -211,6 +214,8 @@ module _ (isolated : ℕ → Bool) where
       ap (opened here bs) (laid (act.Begin sort kind) f l ts more ds) ∙ (inner (in_value sort) tt pl.0 here bs ((act.End sort, l) ∷ (deeds_in more ++ ds)) ∙ after p i pl.1 here bs ds)
   quiet_piece p act.BeginList f l ts more i pl w inner after here bs ds =
       ap (opened here bs) (laid act.BeginList f l ts more ds) ∙ (inner in_list tt pl.0 here bs ((act.EndList, l) ∷ (deeds_in more ++ ds)) ∙ after p i pl.1 here bs ds)
+  quiet_piece p (act.BeginChoice n) f l ts more i pl w inner after here bs ds =
+      ap (opened here bs) (laid (act.BeginChoice n) f l ts more ds) ∙ (inner in_choice tt pl.0 here bs ((act.EndChoice, l) ∷ (deeds_in more ++ ds)) ∙ after p i pl.1 here bs ds)
   quiet_piece p _ f l ts more i pl w inner after here bs ds = absurd pl
 
   quiet_value : (sort : ValueSort) (a : Action) → QuietStep (in_value sort) a
@@ -220,6 +225,10 @@ module _ (isolated : ℕ → Bool) where
   quiet_item : (a : Action) → QuietStep in_item a
   quiet_item act.EndItem f l ts more i pl w inner after = absurd pl
   quiet_item a f l ts more i pl w inner after = quiet_piece in_item a f l ts more i pl w inner after
+
+  quiet_choice : (a : Action) → QuietStep in_choice a
+  quiet_choice act.EndChoice f l ts more i pl w inner after = absurd pl
+  quiet_choice a f l ts more i pl w inner after = quiet_piece in_choice a f l ts more i pl w inner after
 
   quiet_list : (a : Action) → QuietStep in_list a
   quiet_list act.BeginItem f l ts more i pl w inner after here bs ds =
@@ -242,6 +251,7 @@ module _ (isolated : ℕ → Bool) where
   quiet_step (in_value sort) a = quiet_value sort a
   quiet_step in_list a = quiet_list a
   quiet_step in_item a = quiet_item a
+  quiet_step in_choice a = quiet_choice a
   quiet_step _ a = λ f l ts more i pl w inner after. absurd i
 
   quiet : (ts : Trees ActionSpan) → AreWhole ts → Known ts
@@ -266,6 +276,8 @@ module _ (isolated : ℕ → Bool) where
       ap (opened here (x ∷ [])) (laid (act.Begin sort kind) f l ts more ds) ∙ (inner (in_value sort) tt pl.0 here (x ∷ []) ((act.End sort, l) ∷ (deeds_in more ++ ds)) ∙ after pl.1 here x ds)
   opens_step act.BeginList f l ts more pl w inner below after here x ds =
       ap (opened here (x ∷ [])) (laid act.BeginList f l ts more ds) ∙ (inner in_list tt pl.0 here (x ∷ []) ((act.EndList, l) ∷ (deeds_in more ++ ds)) ∙ after pl.1 here x ds)
+  opens_step (act.BeginChoice n) f l ts more pl w inner below after here x ds =
+      ap (opened here (x ∷ [])) (laid (act.BeginChoice n) f l ts more ds) ∙ (inner in_choice tt pl.0 here (x ∷ []) ((act.EndChoice, l) ∷ (deeds_in more ++ ds)) ∙ after pl.1 here x ds)
   opens_step act.BeginRegion f l ts more pl w inner below after true x ds =
       ap (opened true (x ∷ [])) (laid act.BeginRegion f l ts more ds) ∙ (below false true x [] ((act.EndRegion, l) ∷ (deeds_in more ++ ds)) ∙ after pl.1 true x ds)
   opens_step act.BeginRegion f l ts more pl w inner below after false x ds =

@@ -3,10 +3,10 @@ use Rattle.std.proofs.Common.{◌≡◌, ℕ, true, false, List, [], ◌∷◌, 
 use Rattle.std.proofs.lemmas.List.{append_assoc, append-nil}
 use Rattle.ir_names.specs.Tree.{Trees, node, no_tree, a_tree}
 use Rattle.ir_grammar.specs.declared.grammar.Action.{Action}
-use Rattle.ir_grammar.specs.declared.grammar.Action.TheVariants.{Result, Operation, EndOperation, BeginRegion, EndRegion, Label, Argument, Header, Begin, End, Leaf, BeginOperands, Operand, BeginSuccessor, BeginList, BeginItem, EndItem}
+use Rattle.ir_grammar.specs.declared.grammar.Action.TheVariants.{Result, Operation, EndOperation, BeginRegion, EndRegion, Label, Argument, Header, Begin, End, Leaf, BeginOperands, Operand, BeginSuccessor, BeginList, BeginItem, EndItem, BeginChoice, EndChoice}
 use Rattle.ir_grammar.specs.declared.grammar.Event.{Event}
 use Rattle.ir_forest.specs.Forest.{end_of, is_end, Deed, deeds, ActionSpan, ending, deeds_in, IsWholeStep, AreWhole, IsForestOf}
-use Rattle.ir_grammar.specs.Nesting.{Position, at_root, behind_root_results, at_end, in_operation, in_operands, in_successor, in_region, in_header, in_argument, in_block, behind_results, in_value, in_list, in_item, Move, goes_to, goes_in, goes_out, nowhere, end_move, move, Nests, NestsBy}
+use Rattle.ir_grammar.specs.Nesting.{Position, at_root, behind_root_results, at_end, in_operation, in_operands, in_successor, in_region, in_header, in_argument, in_block, behind_results, in_value, in_list, in_item, in_choice, Move, goes_to, goes_in, goes_out, nowhere, end_move, move, Nests, NestsBy}
 use Rattle.ir_print.specs.declared.format.ValueSort.{ValueSort}
 use Rattle.ir_print.specs.declared.format.ValueSort.TheVariants as sorts
 use Rattle.ir_forest.proofs.BuiltSteps.{alone, opening, closing, sort_of, EndsBy, ends_by, end_sort, Says, says, Follows, nests_deeds}
@@ -56,6 +56,7 @@ content_at behind_results = of_block
 content_at (in_value sort) = of_pieces
 content_at in_list = of_pieces
 content_at in_item = of_pieces
+content_at in_choice = of_pieces
 
 -- there is something, of which this holds
 abbrev pub OnContent : Option Content → (Content → Type 0) → Type 0
@@ -74,7 +75,7 @@ Keeps p a (goes_in i q) = (content_at q ≡ content_at p) × (inside (content_at
 Keeps p a goes_out = Unit {0}
 Keeps p a nowhere = Unit {0}
 
--- pieces stand in operations, types, attributes and members
+-- pieces stand in operations, types, attributes, members and choices
 operation_keeps : (a : Action) → Keeps in_operation a (move in_operation a)
 operation_keeps EndOperation = tt
 operation_keeps BeginRegion = (refl, refl)
@@ -83,6 +84,7 @@ operation_keeps BeginSuccessor = (refl, refl)
 operation_keeps (Leaf sort) = (refl, refl)
 operation_keeps (Begin sort kind) = (refl, refl)
 operation_keeps BeginList = (refl, refl)
+operation_keeps (BeginChoice n) = (refl, refl)
 operation_keeps _ = tt
 
 end_keeps : (sort s : ValueSort) → Keeps (in_value sort) (End s) (end_move sort s)
@@ -96,6 +98,7 @@ value_keeps sort (End s) = end_keeps sort s
 value_keeps sort (Leaf s) = (refl, refl)
 value_keeps sort (Begin s kind) = (refl, refl)
 value_keeps sort BeginList = (refl, refl)
+value_keeps sort (BeginChoice n) = (refl, refl)
 value_keeps sort _ = tt
 
 item_keeps : (a : Action) → Keeps in_item a (move in_item a)
@@ -103,7 +106,16 @@ item_keeps EndItem = tt
 item_keeps (Leaf sort) = (refl, refl)
 item_keeps (Begin sort kind) = (refl, refl)
 item_keeps BeginList = (refl, refl)
+item_keeps (BeginChoice n) = (refl, refl)
 item_keeps _ = tt
+
+choice_keeps : (a : Action) → Keeps in_choice a (move in_choice a)
+choice_keeps EndChoice = tt
+choice_keeps (Leaf sort) = (refl, refl)
+choice_keeps (Begin sort kind) = (refl, refl)
+choice_keeps BeginList = (refl, refl)
+choice_keeps (BeginChoice n) = (refl, refl)
+choice_keeps _ = tt
 
 operands_keeps : (a : Action) → Keeps in_operands a (move in_operands a)
 operands_keeps Operand = (refl, refl)
@@ -165,6 +177,7 @@ keeps behind_results a = results_keeps a
 keeps (in_value sort) a = value_keeps sort a
 keeps in_list a = list_keeps a
 keeps in_item a = item_keeps a
+keeps in_choice a = choice_keeps a
 
 -- an end ends what is begun
 out : (p : Position) (a : Action) (m : Move) (q : Position) (qs : List Position) (F : Position → List Position → Type 0) → Says p a m → sort_of a ≡ closing → NestsBy m (q ∷ qs) F → F q qs

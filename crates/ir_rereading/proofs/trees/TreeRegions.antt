@@ -4,7 +4,7 @@ use Rattle.std.proofs.lemmas.List.{append_assoc, append-nil}
 use Rattle.ir_names.specs.Tree.{Trees, node, no_tree, a_tree}
 use Rattle.ir_print.specs.Pieces.{Values, operation, a_region, block, Entity, entity, Entities, no_entity, an_entity}
 use Rattle.ir_grammar.specs.declared.grammar.Action.{Action}
-use Rattle.ir_grammar.specs.declared.grammar.Action.TheVariants.{Result, Operation, EndOperation, BeginRegion, EndRegion, Label, EndBlock, Begin, End, BeginOperands, EndOperands, BeginSuccessor, EndSuccessor, BeginList, BeginItem, EndItem, EndList}
+use Rattle.ir_grammar.specs.declared.grammar.Action.TheVariants.{Result, Operation, EndOperation, BeginRegion, EndRegion, Label, EndBlock, Begin, End, BeginOperands, EndOperands, BeginSuccessor, EndSuccessor, BeginList, BeginItem, EndItem, EndList, BeginChoice, EndChoice}
 use Rattle.ir_grammar.specs.declared.grammar.Event.{Event}
 use Rattle.ir_grammar.specs.declared.grammar.Event.TheVariants.{Took, Did}
 use Rattle.ir_scopes.specs.declared.sites.Frame.{Frame}
@@ -240,6 +240,7 @@ module _ (isolated : ℕ → Bool) where
   plain_end BeginOperands x p e = let same : EndOperands ≡ x = cc in ap is_plain (sym same)
   plain_end BeginList x p e = let same : EndList ≡ x = cc in ap is_plain (sym same)
   plain_end BeginItem x p e = let same : EndItem ≡ x = cc in ap is_plain (sym same)
+  plain_end (BeginChoice n) x p e = let same : EndChoice ≡ x = cc in ap is_plain (sym same)
   plain_end _ x p e = let wrong : None ≡ Some x = e in cc
 
   plain_piece : (a : Action) (ts : Trees ActionSpan) → OnContent (inside of_pieces a) (λ d. AreOf d ts) → (is_plain a ≡ true) × AreOf of_pieces ts

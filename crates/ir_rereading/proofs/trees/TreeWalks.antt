@@ -11,7 +11,7 @@ use Rattle.ir_forest.specs.Building.{with_name}
 use Rattle.ir_forest.specs.Closed.{AreIn, names_of, all_defined, all_mentioned, all_definitions_of, AreScoped}
 use Rattle.ir_forest.specs.Forest.{end_of, Deed, deeds_from, ActionSpan, ending, deeds_of, deeds_in, IsWholeStep, AreWhole}
 use Rattle.ir_forest.specs.Meaning.{pieces_in, tokens_in, operands_in, arguments_in, typed, operations_in, regions_in, blocks_in, all_renamed}
-use Rattle.ir_grammar.specs.Nesting.{Position, at_root, behind_root_results, at_end, in_operation, in_operands, in_successor, in_region, in_header, in_argument, in_block, behind_results, in_value, in_list, in_item, move, end_move, piece_move}
+use Rattle.ir_grammar.specs.Nesting.{Position, at_root, behind_root_results, at_end, in_operation, in_operands, in_successor, in_region, in_header, in_argument, in_block, behind_results, in_value, in_list, in_item, in_choice, move, end_move, piece_move}
 use Rattle.ir_scopes.specs.Scopes.{EventPlace}
 use Rattle.ir_rereading.proofs.trees.TreeCounts.{CountsAt, Counts}
 use Rattle.ir_rereading.proofs.trees.TreeParts.{IsDeed, one_deed, split_deeds, IsQuiet, Part, part_append, part_change, part_still, part_quiet, part_defines, part_mentions, part_bracket, has_operation, part_operation, part_region, part_scope}
@@ -140,6 +140,7 @@ module _ (isolated : ℕ → Bool) (values : Values) (text : ℕ → List ℕ) {
   Goal (in_value sort) names ts = QuietGoal ts
   Goal in_list names ts = QuietGoal ts
   Goal in_item names ts = QuietGoal ts
+  Goal in_choice names ts = QuietGoal ts
 
   -- names of results stand only before operations
   abbrev MayName : Position → List ℕ → Type 0
@@ -167,6 +168,7 @@ module _ (isolated : ℕ → Bool) (values : Values) (text : ℕ → List ℕ) {
   none (in_value sort) names f m = λ at es low read. part_still isolated g at es read
   none in_list names f m = λ at es low read. part_still isolated g at es read
   none in_item names f m = λ at es low read. part_still isolated g at es read
+  none in_choice names f m = λ at es low read. part_still isolated g at es read
 
   -- ---- one tree and those behind it
 
@@ -252,12 +254,15 @@ module _ (isolated : ℕ → Bool) (values : Values) (text : ℕ → List ℕ) {
       quiet_node at es (act.Begin sort kind) (act.End sort) f l ts (λ p. (refl, refl, refl, refl)) (λ p. (refl, refl, refl, refl)) refl low (inner (in_value sort) pl.0) read
   piece_quiet p act.BeginList f l ts rest pl w inner at es low read =
       quiet_node at es act.BeginList act.EndList f l ts (λ p. (refl, refl, refl, refl)) (λ p. (refl, refl, refl, refl)) refl low (inner in_list pl.0) read
+  piece_quiet p (act.BeginChoice n) f l ts rest pl w inner at es low read =
+      quiet_node at es (act.BeginChoice n) act.EndChoice f l ts (λ p. (refl, refl, refl, refl)) (λ p. (refl, refl, refl, refl)) refl low (inner in_choice pl.0) read
   piece_quiet p _ f l ts rest pl w inner at es low read = absurd pl
 
   piece_rest : (p : Position) (a : Action) (ts rest : Trees ActionSpan) → PlacedBy (piece_move p a) (λ q. Placed q ts) (λ q. Placed q rest) → Placed p rest
   piece_rest p (act.Leaf sort) ts rest pl = pl
   piece_rest p (act.Begin sort kind) ts rest pl = pl.1
   piece_rest p act.BeginList ts rest pl = pl.1
+  piece_rest p (act.BeginChoice n) ts rest pl = pl.1
   piece_rest p _ ts rest pl = absurd pl
 
   -- what is known of the trees in a step, and behind it
@@ -278,6 +283,7 @@ module _ (isolated : ℕ → Bool) (values : Values) (text : ℕ → List ℕ) {
   operation_piece (act.Leaf sort) f l ts rest pl w inner more = operation_then (act.Leaf sort) (act.Leaf leaves.Name) f l ts rest (piece_quiet in_operation (act.Leaf sort) f l ts rest pl w (quiet_known ts inner)) more
   operation_piece (act.Begin sort kind) f l ts rest pl w inner more = operation_then (act.Begin sort kind) (act.Leaf leaves.Name) f l ts rest (piece_quiet in_operation (act.Begin sort kind) f l ts rest pl w (quiet_known ts inner)) more
   operation_piece act.BeginList f l ts rest pl w inner more = operation_then act.BeginList (act.Leaf leaves.Name) f l ts rest (piece_quiet in_operation act.BeginList f l ts rest pl w (quiet_known ts inner)) more
+  operation_piece (act.BeginChoice n) f l ts rest pl w inner more = operation_then (act.BeginChoice n) (act.Leaf leaves.Name) f l ts rest (piece_quiet in_operation (act.BeginChoice n) f l ts rest pl w (quiet_known ts inner)) more
   operation_piece _ f l ts rest pl w inner more = absurd pl
 
   -- operands, between an action that begins them and one that ends them
@@ -524,6 +530,7 @@ module _ (isolated : ℕ → Bool) (values : Values) (text : ℕ → List ℕ) {
   piece_names p (act.Leaf sort) f names ts rest pl c = c
   piece_names p (act.Begin sort kind) f names ts rest pl c = c
   piece_names p act.BeginList f names ts rest pl c = c
+  piece_names p (act.BeginChoice n) f names ts rest pl c = c
   piece_names p _ f names ts rest pl c = absurd pl
 
   inner_known : (ts : Trees ActionSpan) → AllKnown ts → Counts values text [] ts → Known ts []
@@ -558,6 +565,11 @@ module _ (isolated : ℕ → Bool) (values : Values) (text : ℕ → List ℕ) {
   item_steps act.EndItem names f l ts rest pl w c inner more = absurd pl
   item_steps a names f l ts rest pl w c inner more =
       piece_steps in_item a names f l ts rest pl w c inner (more in_item [] (piece_rest in_item a ts rest pl) (piece_names in_item a f names ts rest pl c.2) tt)
+
+  choice_steps : (a : Action) → Steps in_choice a
+  choice_steps act.EndChoice names f l ts rest pl w c inner more = absurd pl
+  choice_steps a names f l ts rest pl w c inner more =
+      piece_steps in_choice a names f l ts rest pl w c inner (more in_choice [] (piece_rest in_choice a ts rest pl) (piece_names in_choice a f names ts rest pl c.2) tt)
 
   list_steps : (a : Action) → Steps in_list a
   list_steps act.BeginItem names f l ts rest pl w c inner more =
@@ -636,6 +648,7 @@ module _ (isolated : ℕ → Bool) (values : Values) (text : ℕ → List ℕ) {
   steps (in_value sort) a = value_steps sort a
   steps in_list a = list_steps a
   steps in_item a = item_steps a
+  steps in_choice a = choice_steps a
 
   walk : (ts : Trees ActionSpan) → AreWhole ts → AllKnown ts
   walk no_tree w p names pl c m = none p names pl m

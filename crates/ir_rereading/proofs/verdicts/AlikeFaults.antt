@@ -3,7 +3,7 @@ use Rattle.std.proofs.Common.{◌≡◌, ℕ, ◌+◌, ◌-◌, List, [], ◌∷
 use Rattle.ir_names.specs.Tree.{LabelledTree, Trees, node}
 use Rattle.ir_print.specs.Pieces.{Values}
 use Rattle.ir_grammar.specs.declared.grammar.Action.{Action}
-use Rattle.ir_grammar.specs.declared.grammar.Action.TheVariants.{Operation, BeginRegion, Label, Begin, BeginOperands, BeginSuccessor, BeginList, BeginItem}
+use Rattle.ir_grammar.specs.declared.grammar.Action.TheVariants.{Operation, BeginRegion, Label, Begin, BeginOperands, BeginSuccessor, BeginList, BeginItem, BeginChoice}
 use Rattle.ir_grammar.specs.declared.grammar.Event.{Event}
 use Rattle.ir_grammar.specs.declared.grammar.Event.TheVariants.{Took, Did}
 use Rattle.ir_grammar.specs.declared.grammar.Stop.{Stop}
@@ -21,16 +21,18 @@ use Rattle.ir_scopes.proofs.Depths.{deep_stays}
 use Rattle.ir_scopes.proofs.ScopeFronts.{stays}
 use Rattle.ir_scopes.proofs.Walks.{same_names}
 
-begins_item : (a : Action) → begins_member a ≡ true → a ≡ BeginItem
-begins_item BeginItem h = refl
-begins_item _ h = cc
+-- what begins a member is no part that counts for the depth
+begins_shut : (a : Action) → begins_member a ≡ true → opens a ≡ false
+begins_shut BeginItem h = refl
+begins_shut (BeginChoice n) h = refl
+begins_shut _ h = cc
 
 -- ---- depth
 
 opens_front : (many n d : ℕ) (a b : List Event) (k : ℕ) → OnlyBegins b → OpensAt many n d (a ++ b) k → OpensAt many n d a k
 opens_front many n d [] [] k only h = h
 opens_front many n d [] (Took ∷ b) k only h = absurd only
-opens_front many n d [] (Did x ∷ b) k only (inl h) = let e : opens x ≡ false = ap opens (begins_item x only.0) in let w : true ≡ false = sym h.0 ∙ e in cc
+opens_front many n d [] (Did x ∷ b) k only (inl h) = let e : opens x ≡ false = begins_shut x only.0 in let w : true ≡ false = sym h.0 ∙ e in cc
 opens_front many n d [] (Did x ∷ b) k only (inr h) = opens_front many n (depth_at d x) [] b k only.1 h
 opens_front many n d (Took ∷ a) b k only h = opens_front many (n + 1) d a b k only h
 opens_front many n d (Did x ∷ a) b k only (inl h) = inl h
@@ -41,12 +43,17 @@ deep_front a b f only h = (h.0, opens_front 64 0 0 a b h.0 only h.1, h.2)
 
 -- ---- scopes
 
-module _ {A : Type 0} (isolated : ℕ → Bool) (f : EventPlace → Event → List A) (none : (at : EventPlace) → f at (Did BeginItem) ≡ []) where
+module _ {A : Type 0} (isolated : ℕ → Bool) (f : EventPlace → Event → List A) (none : (at : EventPlace) → f at (Did BeginItem) ≡ []) (none_chosen : (at : EventPlace) (n : ℕ) → f at (Did (BeginChoice n)) ≡ []) where
+  begins_none : (at : EventPlace) (a : Action) → begins_member a ≡ true → f at (Did a) ≡ []
+  begins_none at BeginItem h = none at
+  begins_none at (BeginChoice n) h = none_chosen at n
+  begins_none at _ h = cc
+
   each_begins : (at : EventPlace) (b : List Event) → OnlyBegins b → each isolated f at b ≡ []
   each_begins at [] only = refl
   each_begins at (Took ∷ b) only = absurd only
   each_begins at (Did x ∷ b) only =
-      ap (λ xs. xs ++ each isolated f (behind isolated at (Did x)) b) (ap (λ y. f at (Did y)) (begins_item x only.0) ∙ none at) ∙ each_begins (behind isolated at (Did x)) b only.1
+      ap (λ xs. xs ++ each isolated f (behind isolated at (Did x)) b) (begins_none at x only.0) ∙ each_begins (behind isolated at (Did x)) b only.1
 
   each_front : (at : EventPlace) (a b : List Event) → OnlyBegins b → each isolated f at (a ++ b) ≡ each isolated f at a
   each_front at [] b only = each_begins at b only
@@ -54,15 +61,15 @@ module _ {A : Type 0} (isolated : ℕ → Bool) (f : EventPlace → Event → Li
 
 scopes_front : (isolated : ℕ → Bool) (names : List ℕ) (a b : List Event) (f : Fault) → OnlyBegins b → HasScopeFault isolated names (a ++ b) f → HasScopeFault isolated names a f
 scopes_front isolated names a b f only (inl h) = inl (subst (λ n. HasNameFault names n f) (same_names
-    (each_front isolated defined (λ at. refl) beginning a b only)
-    (each_front isolated mentioned (λ at. refl) beginning a b only)
-    (each_front isolated (closed isolated) (λ at. refl) beginning a b only)) h)
+    (each_front isolated defined (λ at. refl) (λ at n. refl) beginning a b only)
+    (each_front isolated mentioned (λ at. refl) (λ at n. refl) beginning a b only)
+    (each_front isolated (closed isolated) (λ at. refl) (λ at n. refl) beginning a b only)) h)
 scopes_front isolated names a b f only (inr (inl h)) = inr (inl (subst (λ n. HasNameFault names n f) (same_names
-    (each_front isolated labelled (λ at. refl) beginning a b only)
-    (each_front isolated label_mentioned (λ at. refl) beginning a b only)
-    (each_front isolated (label_closed isolated) (λ at. refl) beginning a b only)) h))
+    (each_front isolated labelled (λ at. refl) (λ at n. refl) beginning a b only)
+    (each_front isolated label_mentioned (λ at. refl) (λ at n. refl) beginning a b only)
+    (each_front isolated (label_closed isolated) (λ at. refl) (λ at n. refl) beginning a b only)) h))
 scopes_front isolated names a b f only (inr (inr h)) =
-    inr (inr (h.0, h.1, subst (λ ks. slice_get ks h.0 ≡ Some h.1) (each_front isolated opened_below_root (λ at. refl) beginning a b only) h.2, h.3))
+    inr (inr (h.0, h.1, subst (λ ks. slice_get ks h.0 ≡ Some h.1) (each_front isolated opened_below_root (λ at. refl) (λ at n. refl) beginning a b only) h.2, h.3))
 
 -- ---- trees
 
@@ -122,6 +129,7 @@ ending_plain BeginOperands = refl
 ending_plain BeginSuccessor = refl
 ending_plain BeginList = refl
 ending_plain BeginItem = refl
+ending_plain (BeginChoice n) = refl
 ending_plain _ = tt
 
 end_plain : (a e : Action) → end_of a ≡ Some e → begins_member e ≡ false
@@ -129,6 +137,7 @@ end_plain a e h = subst Plain h (ending_plain a)
 
 alone_plain : (a : Action) → end_of a ≡ None → begins_member a ≡ false
 alone_plain BeginItem h = cc
+alone_plain (BeginChoice n) h = cc
 alone_plain _ h = refl
 
 -- a whole tree ends so

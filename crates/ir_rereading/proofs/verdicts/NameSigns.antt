@@ -1,7 +1,7 @@
 -- In the rules of formats each action that keeps a name or names a value or a block comes straight behind the sign of names.
 use Rattle.std.proofs.Common.{◌≡◌, ℕ, zero, suc, ◌==◌, List, [], ◌∷◌, ◌++◌, Some, Bool, true, false, slice_get, refl, subst}
 use Rattle.std.specs.Bool.{MatchBool}
-use Rattle.ir_print.specs.Formats.{Formats, Kind, Step, Steps, word, operands, operand, successor, a_value, a_region, symbol_name, a_leaf, list_of, no_steps, step}
+use Rattle.ir_print.specs.Formats.{Formats, Kind, Step, Steps, word, operands, operand, successor, a_value, a_region, symbol_name, a_leaf, list_of, choice_of, no_steps, step, Choices, no_choice, a_choice}
 use Rattle.ir_grammar.specs.declared.grammar.Action.{Action}
 use Rattle.ir_grammar.specs.declared.grammar.Action.TheVariants as act
 use Rattle.ir_grammar.specs.declared.grammar.Symbol.{Symbol}
@@ -11,7 +11,7 @@ use Rattle.ir_formats.specs.declared.rules.Sort.{Sort}
 use Rattle.ir_formats.specs.declared.rules.Sort.TheVariants as sort
 use Rattle.ir_print.specs.declared.format.LeafSort.TheVariants as leaves
 use Rattle.ir_print.specs.declared.format.ValueSort.TheVariants as sorts
-use Rattle.ir_formats.specs.Rules.{PlainRule, MadeOfSteps, up, sign, number_of, several, step_made, steps_made, part_of, begin_of, end_of, kinds_made, words_of, operation_rules, region_rules, block_rules, argument_rules, rules_of, plain_rules}
+use Rattle.ir_formats.specs.Rules.{PlainRule, MadeOfSteps, up, sign, number_of, several, step_made, steps_made, choices_made, part_of, begin_of, end_of, kinds_made, words_of, operation_rules, region_rules, block_rules, argument_rules, rules_of, plain_rules}
 
 -- ---- the test
 
@@ -85,11 +85,14 @@ module _ (ws : List (List ℕ)) where
     step_behind symbol_name n = ((refl, tt), tt)
     step_behind (a_leaf leaves.Name) n = ((refl, tt), tt)
     step_behind (a_leaf leaves.Number) n = (tt, tt)
+    step_behind (a_leaf leaves.Digits) n = (tt, tt)
     step_behind (a_leaf leaves.Width) n = (tt, tt)
+    step_behind (a_leaf leaves.Text) n = (tt, tt)
+    step_behind (choice_of cs) n = (tt, choices_behind n 0 cs (up n 1))
     step_behind (list_of member printed separator) n =
         let m = steps_made ws member (up n 2) in
         let inside = steps_behind member (up n 2) in
-        (tt, rules_append m.rules _ inside.1 (several_behind n (up (number_of ws separator) 3) (Act act.BeginItem ∷ (m.symbols ++ Act act.EndItem ∷ [])) (behind_append false m.symbols (Act act.EndItem ∷ []) inside.0 tt)))
+        (tt, rules_append m.rules _ inside.1 (several_behind n (up (number_of ws separator) 5) (Act act.BeginItem ∷ (m.symbols ++ Act act.EndItem ∷ [])) (behind_append false m.symbols (Act act.EndItem ∷ []) inside.0 tt)))
 
     steps_behind : (ss : Steps) (n : ℕ) → MadeBehindNames (steps_made ws ss n)
     steps_behind no_steps n = (tt, tt)
@@ -99,6 +102,15 @@ module _ (ws : List (List ℕ)) where
         let here = step_behind s n in
         let rest = steps_behind ss a.next in
         (behind_append false a.symbols b.symbols here.0 rest.0, rules_append a.rules b.rules here.1 rest.1)
+
+    choices_behind : (c i : ℕ) (cs : Choices) (n : ℕ) → AreBehindNames (choices_made ws c i cs n).rules
+    choices_behind c i no_choice n = tt
+    choices_behind c i (a_choice ss cs) n =
+        let m = steps_made ws ss n in
+        let inside = steps_behind ss n in
+        rules_append (m.rules ++ (c, Act (act.BeginChoice i) ∷ (m.symbols ++ Act act.EndChoice ∷ [])) ∷ []) _
+        (rules_append m.rules _ inside.1 (behind_append false m.symbols (Act act.EndChoice ∷ []) inside.0 tt, tt))
+        (choices_behind c (suc i) cs m.next)
 
   -- what stands between two actions of a sort
   body_behind : (s : Sort) (i : ℕ) (fresh : Bool) (ss : List Symbol) → BehindNames false ss → BehindNames fresh (Act (begin_of s i) ∷ (ss ++ Act (end_of s) ∷ []))
@@ -112,7 +124,7 @@ module _ (ws : List (List ℕ)) where
       let m = steps_made ws k.format n in
       let inside = steps_behind k.format n in
       rules_append (m.rules ++ (part_of s, sign ws k.id ∷ Act (begin_of s i) ∷ (m.symbols ++ Act (end_of s) ∷ [])) ∷ []) _
-      (rules_append m.rules _ inside.1 (body_behind s i (up (number_of ws k.id) 3 == 0) m.symbols inside.0, tt))
+      (rules_append m.rules _ inside.1 (body_behind s i (up (number_of ws k.id) 5 == 0) m.symbols inside.0, tt))
       (kinds_behind s (suc i) ks m.next)
 
 -- all rules of a dialect's grammar are so

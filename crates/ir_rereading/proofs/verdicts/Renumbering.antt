@@ -24,7 +24,8 @@ use Rattle.ir_scopes.specs.declared.sites.Closing.{Closing}
 use Rattle.ir_grammar.specs.Grammar.{accepted, accepts, Derives, Finished, Shifted, Acted, Expanded, IsTextOf}
 use Rattle.ir_grammar.specs.Reading.{through, tooks, IsMostly, Reads}
 use Rattle.ir_formats.specs.Rules.{words_of, may_be_name, takes, class_of, classes_of, plain_rules, plain_classes}
-use Rattle.ir_formats.specs.Words.{text_of, shape_kind, is_spelled, kind_of, AlikeInNumber}
+use Rattle.ir_formats.specs.Words.{text_of, is_quotation, shape_kind, is_spelled, kind_of, AlikeInNumber}
+use Rattle.ir_rereading.proofs.verdicts.NameTokens.{quoted_no_name}
 use Rattle.ir_scopes.specs.Scopes.{EventPlace, beginning, behind, last_token, defined, labelled, mentioned, label_mentioned, each, definitions, labels, mentions, closings, label_mentions, label_closings, name_of, SiteHasName, IsAgain, IsUnresolvedName}
 use Rattle.ir_rereading.specs.Texts.{IsReading, HasFault}
 use Rattle.ir_forest.specs.Language.{Language}
@@ -118,22 +119,22 @@ module _ (ws : List (List ℕ)) where
   spelled_kind Digits text word e = let wrong : false ≡ true = e in cc
   spelled_kind Negative text word e = let wrong : false ≡ true = e in cc
   spelled_kind Mark text word e = let wrong : false ≡ true = e in cc
-  spelled_kind Text text word e = let wrong : false ≡ true = e in cc
+  spelled_kind Text text word e = absurd (quoted_no_name ws (is_quotation text) e)
   spelled_kind _ text word e = refl
 
   class_name : (k : ℕ) → slice_index_or (class_of ws 0) k false ≡ true → may_be_name ws k ≡ true
-  class_name k h = go (cases_lt k (length ws + 5))
+  class_name k h = go (cases_lt k (length ws + 6))
     where
-      go : (k < length ws + 5) ⊎ (length ws + 5 ≤ k) → may_be_name ws k ≡ true
-      go (inl less) = sym (get_or-map-range_with_len (takes ws 0) 0 (length ws + 5) k k false less (omega arith)) ∙ h
+      go : (k < length ws + 6) ⊎ (length ws + 6 ≤ k) → may_be_name ws k ≡ true
+      go (inl less) = sym (get_or-map-range_with_len (takes ws 0) 0 (length ws + 6) k k false less (omega arith)) ∙ h
       go (inr more) =
-          let past : slice_index_or (class_of ws 0) k false ≡ false = get_or_past (class_of ws 0) k false (omega (arith, length-map-range_with_len (takes ws 0) 0 (length ws + 5))) in
+          let past : slice_index_or (class_of ws 0) k false ≡ false = get_or_past (class_of ws 0) k false (omega (arith, length-map-range_with_len (takes ws 0) 0 (length ws + 6))) in
           let wrong : false ≡ true = sym past ∙ h in cc
 
   accepted_name : (cs : List Class) (k : ℕ) → plain_classes cs ≡ classes_of ws → accepted (slice_get cs 0) k ≡ true → may_be_name ws k ≡ true
   accepted_name [] k e h = cc
   accepted_name (c ∷ cs) k e h =
-      let row : c.kinds.items ≡ class_of ws 0 = ap (λ xs. get_or xs 0 []) e ∙ get_or-map-range_with_len (class_of ws) 0 (length ws + 3) 0 0 [] (omega arith) refl in
+      let row : c.kinds.items ≡ class_of ws 0 = ap (λ xs. get_or xs 0 []) e ∙ get_or-map-range_with_len (class_of ws) 0 (length ws + 5) 0 0 [] (omega arith) refl in
       class_name k (subst (λ (x : List Bool). slice_index_or x k false ≡ true) row h)
 
 -- ---- what reading gives

@@ -2,7 +2,7 @@
 use Rattle.std.proofs.Common.{List, [], ◌∷◌, ◌++◌}
 use Rattle.ir_names.specs.Tree.{LabelledTree, Trees, node, no_tree, a_tree, join}
 use Rattle.ir_print.specs.declared.format.Part.{Part}
-use Rattle.ir_print.specs.Pieces.{value_of_kind, list, item, operands, successor, region, leaf, name, number, width, ValueTree, Pieces}
+use Rattle.ir_print.specs.Pieces.{value_of_kind, list, item, chosen, operands, successor, region, leaf, name, number, width, ValueTree, Pieces}
 use Rattle.ir_print.specs.Shown.{Said, Saying, Shows, ShowsAll, ShowsPart, ShowsParts, ShowsMembers, ShowsMember}
 use Rattle.std.specs.Prelude.{Vec}
 use Rattle.std.specs.Global.{Global}
@@ -16,6 +16,7 @@ module _ {K A T : Type 0} (says : Saying K A T) (s t : List T) (keeps : KeepsKey
     shows_later x (node (value_of_kind sorts.Attribute n) ts) (attr, us, e, says_it, all) = (attr, us, e, says_it, all_later us ts all)
     shows_later x (node list ts) (us, e, all) = (us, e, all_later us ts all)
     shows_later x (node item ts) (us, e, all) = (us, e, all_later us ts all)
+    shows_later x (node (chosen n) ts) (us, e, all) = (us, e, all_later us ts all)
     shows_later x (node (operands n) ts) h = h
     shows_later x (node (successor n) ts) h = h
     shows_later x (node region ts) h = h
@@ -34,6 +35,7 @@ module _ {D K A T : Type 0} (says : Saying K A T) (s t : List T) (keeps : KeepsK
     part_later x (node (value_of_kind sorts.Attribute n) ts) (attr, e, h) = (attr, e, shows_later says s t keeps _ (node (value_of_kind sorts.Attribute n) ts) h)
     part_later x (node list ts) (ms, e, h) = (ms, e, members_later ms.items ts h)
     part_later x (node item ts) h = h
+    part_later x (node (chosen n) ts) (ps, e, h) = (ps, e, parts_later ps.items ts h)
     part_later x (node (operands n) ts) h = h
     part_later x (node (successor n) ts) h = h
     part_later x (node region ts) h = h
@@ -55,6 +57,7 @@ module _ {D K A T : Type 0} (says : Saying K A T) (s t : List T) (keeps : KeepsK
     member_later xs (node item ts) h = parts_later xs ts h
     member_later xs (node (value_of_kind sort n) ts) h = h
     member_later xs (node list ts) h = h
+    member_later xs (node (chosen n) ts) h = h
     member_later xs (node (operands n) ts) h = h
     member_later xs (node (successor n) ts) h = h
     member_later xs (node region ts) h = h

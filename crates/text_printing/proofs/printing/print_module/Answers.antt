@@ -26,9 +26,8 @@ returns-clause-again g c = λ l can formats grammar known numbering tree stands 
     law.read l can formats grammar known s places numbering c.args.root tree front stands small closed numbered printed
     few in
     record {
-      utf8 = subst IsUtf8 (sym ends) bytes.0;
-      characters = subst (λ cs. chars cs ≡ cs) (sym ends) bytes.1;
+      utf8 = subst IsUtf8 (sym ends) bytes;
       again = read.0;
-      says = subst (λ cs. Says l cs read.0) (sym ends) read.1;
+      says = subst (λ cs. Says l (chars cs) read.0) (sym ends) read.1;
       same = read.2;
     }

@@ -4,11 +4,12 @@ use Rattle.std.specs.Str.{trim}
 use Rattle.std.proofs.lemmas.Bool.Decides.{nat_tests}
 use Rattle.std.proofs.lemmas.Option.{slice_get_read}
 use Rattle.std.proofs.lemmas.Result.{on_ok_weaker}
-use Rattle.text_printing.proofs.FormatSteps.{step_of-List}
-use Rattle.text_printing.proofs.KindsPrinted.{type_printed, attribute_printed, type_part_printed, attribute_part_printed, leaf_part_printed, no_list_printed, list_printed}
+use Rattle.ir_print.proofs.FormatSteps.{step_of-Choice, step_of-List}
+use Rattle.text_printing.proofs.Choices.{alternative_at, no_alternative}
+use Rattle.text_printing.proofs.KindsPrinted.{type_printed, attribute_printed, type_part_printed, attribute_part_printed, leaf_part_printed, no_list_printed, list_printed, no_choice_printed, choice_printed}
 use Rattle.text_printing.proofs.ListOwed.{members_row}
 use Rattle.text_printing.proofs.Owed.{owed_at, owed_past, separated, not_separated}
-use Rattle.text_printing.proofs.ValuesOwed.{no_list, format_word_at, format_part_at, format_none_at, format_past}
+use Rattle.text_printing.proofs.ValuesOwed.{no_choice, no_list, format_word_at, format_part_at, format_none_at, format_past}
 use Rattle.ir_print.specs.Formats.{step_of, steps_of}
 use Rattle.text_printing.specs.Printing.{before_of}
 use Rattle.text_printing.proofs.values.+values.Goals as goal
@@ -79,6 +80,24 @@ print_part-returns-in_ok-print_list-in-List g t c =
 pub print_part-returns-in_default : goal.print_part-returns-in_default
 print_part-returns-in_default g t c =
     no_list_printed _ _ _ c.args.left c.args.lists c.args.part.now (step_of c.args.directive) c.in-List.members _ c.in-List.is (no_list c.args.directive c.in_default.not-List)
+
+pub print_part-returns-in_ok-print_choice-in-Choice : goal.print_part-returns-in_ok-print_choice-in-Choice
+print_part-returns-in_ok-print_choice-in-Choice g t c =
+    choice_printed _ _ _ c.args.left c.args.lists c.args.part.now (step_of c.args.directive) _ c.in-Choice.number c.in-Choice.parts _ _ (omega arith) c.in-Choice.is
+    (ap step_of c.in-Choice-directive.is ∙ step_of-Choice c.in-Choice-directive.alternatives)
+    (λ ts rest h. c.in_ok-print_choice-in-Choice.ensures ts rest (rw c.deref-then-lists-gt0-2.ensures.value h))
+
+pub print_part-returns-in_default-directive : goal.print_part-returns-in_default-directive
+print_part-returns-in_default-directive g t c =
+    no_choice_printed _ _ _ c.args.left c.args.lists c.args.part.now (step_of c.args.directive) c.in-Choice.number c.in-Choice.parts _ c.in-Choice.is (no_choice c.args.directive c.in_default-directive.not-Choice)
+
+pub print_choice-returns-in-Some : goal.print_choice-returns-in-Some
+print_choice-returns-in-Some g t c =
+    let at = alternative_at c.args.alternatives.now c.args.number c.in-Some.format.now (slice_get_read c.args.alternatives.now (length c.args.alternatives.now) c.args.number c.in-Some.format.now refl c.in-Some.ensures.lookup.3.0 c.in-Some.ensures.lookup.1) in
+    on_ok_weaker c.print_parts.result (λ print ts rest h k r. rw at (print ts rest h k r)) c.print_parts.ensures
+
+pub print_choice-returns-in-None : goal.print_choice-returns-in-None
+print_choice-returns-in-None g t c ts rest h k r = rw (no_alternative c.args.alternatives.now c.args.number (past c.args.number (length c.args.alternatives.now) c.in-None.ensures.lookup.0)) refl
 
 pub print_list-loop-parts-preserved : goal.print_list-loop-parts-preserved
 print_list-loop-parts-preserved g t c =

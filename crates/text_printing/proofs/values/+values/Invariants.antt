@@ -20,6 +20,9 @@ decreases-print_parts g l = 256 * l.left + (3 * l.lists + 2)
 abbrev pub decreases-print_part : goal.decreases-print_part
 decreases-print_part g l = 256 * l.left + (3 * l.lists + 1)
 
+abbrev pub decreases-print_choice : goal.decreases-print_choice
+decreases-print_choice g l = 256 * l.left + (3 * l.lists + 3)
+
 abbrev pub decreases-print_list : goal.decreases-print_list
 decreases-print_list g l = 256 * l.left + (3 * l.lists + 3)
 

@@ -1,14 +1,14 @@
 use Rattle.std.proofs.Common.{◌∙◌, ◌++◌, ◌∷◌, [], ap, refl, sym}
 use Rattle.std.proofs.lemmas.Result.{on_ok_weaker}
 use Rattle.text_frames.specs.declared.opened.Body.TheVariants as body
-use Rattle.text_frames.proofs.Ended.{in_it, outer_list, outer_of_region, outer_of_operands, outer_of_edge, outer_region, ended_type, ended_attribute, ended_list, ended_item, ended_operation, ended_operands, ended_edge, ended_region, ended_block, type_refused, attribute_refused, operation_refused}
+use Rattle.text_frames.proofs.Ended.{in_it, outer_list, outer_of_region, outer_of_operands, outer_of_edge, outer_region, ended_type, ended_attribute, ended_list, ended_item, ended_choice, ended_operation, ended_operands, ended_edge, ended_region, ended_block, type_refused, attribute_refused, operation_refused}
 use Rattle.text_assembling.proofs.RaisingBlocks.{list_around, operation_around, operation_around_edge, text_stays, nothing_made, region_raised, block_raised}
 use Rattle.text_frames.proofs.Opening.{interned_same, keeps_keys}
 use Rattle.text_assembling.proofs.RaisingOperations.{operation_can, operation_full, operation_raised, operation_shown}
 use Rattle.text_assembling.proofs.ReadContents.{parts_read, says_read}
 use Rattle.text_assembling.proofs.Stepped.{on_ok_both}
 use Rattle.text_assembling.proofs.Undone.{on_err_any, undone_so}
-use Rattle.text_assembling.proofs.RaisingValues.{type_raised, attribute_raised, list_raised, item_raised, operands_raised, edge_raised}
+use Rattle.text_assembling.proofs.RaisingValues.{type_raised, attribute_raised, list_raised, item_raised, choice_raised, operands_raised, edge_raised}
 use Rattle.text_assembling.proofs.assembling.Assembler.end_in.Goals as goal
 
 pub returns-in-Type-clause-ended : goal.returns-in-Type-clause-ended
@@ -39,17 +39,27 @@ returns-in-Attribute-clause-refused g c text o at next ts e f wrong =
 
 pub returns-in-List-clause-ended : goal.returns-in-List-clause-ended
 returns-in-List-clause-ended g c text o at next ts e =
-    on_ok_weaker c.put.result
-    (λ w. ended_list _ _ _ _ _ (λ i key h. h) _ _ _ _ _ _ _ _ e c.in-List.members c.in-List.is w)
-    c.put.ensures.put
+    let tokens = c.deref-in-List-2.ensures.value ∙ ap (λ x. x.tokens.items) c.deref-in-List.ensures in
+    on_ok_weaker c.put_all-made.result
+    (λ w. ended_list _ _ _ _ _ (λ i key h. h) _ _ _ _ _ _ _ _ e c.in-List.members _ c.in-List.is w tokens)
+    c.put_all-made.ensures.put
 
 pub returns-in-Item-clause-ended : goal.returns-in-Item-clause-ended
 returns-in-Item-clause-ended g c text o at next ts e =
     let outer = outer_list _ _ _ _ _ _ _ _ _ _ e c.in-Item.is in
     let parts = c.replace-parts.ensures.value ∙ ap (λ x. x.parts) c.deref_mut.ensures.value in
-    on_ok_weaker c.end_item.result
-    (λ w. ended_item _ _ _ _ _ (λ i key h. h) _ _ _ _ _ _ _ _ e outer.0 w.0 c.in-Item.is outer.1 w.1 (w.2 ∙ ap (λ x. outer.0.items ++ x ∷ []) parts))
-    (c.end_item.ensures.here outer.0 outer.1)
+    let tokens = c.deref-in-Item-2.ensures.value ∙ (ap (λ x. x.tokens.items) c.deref-in-Item.ensures ∙ ap (λ x. x.tokens.items) c.deref_mut.ensures.value) in
+    on_ok_weaker c.end_item-made.result
+    (λ w. ended_item _ _ _ _ _ (λ i key h. h) _ _ _ _ _ _ _ _ e outer.0 w.0 _ c.in-Item.is outer.1 w.1 tokens (w.2 ∙ ap (λ x. outer.0.items ++ x ∷ []) parts))
+    (c.end_item-made.ensures.here outer.0 outer.1)
+
+pub returns-in-Choice-clause-ended : goal.returns-in-Choice-clause-ended
+returns-in-Choice-clause-ended g c text o at next ts e =
+    let parts = c.replace-parts-in-Choice.ensures.value ∙ ap (λ x. x.parts) c.deref_mut-in-Choice.ensures.value in
+    let tokens = c.deref-in-Choice-2.ensures.value ∙ (ap (λ x. x.tokens.items) c.deref-in-Choice.ensures ∙ ap (λ x. x.tokens.items) c.deref_mut-in-Choice.ensures.value) in
+    on_ok_weaker c.put_all-made-in-Choice.result
+    (λ w. ended_choice _ _ _ _ _ (λ i key h. h) _ _ _ _ _ _ _ _ e c.in-Choice.number _ _ c.in-Choice.is w tokens parts)
+    c.put_all-made-in-Choice.ensures.put
 
 pub returns-in-Operation-clause-ended : goal.returns-in-Operation-clause-ended
 returns-in-Operation-clause-ended g c text o at next ts e =
@@ -148,15 +158,20 @@ returns-in-Attribute-clause-raised g c whole text p next w at goes =
 
 pub returns-in-List-clause-raised : goal.returns-in-List-clause-raised
 returns-in-List-clause-raised g c whole text p next w at goes =
-    list_raised _ _ text _ _ _ _ whole (record c.args.self.now { here = c.put.new.self }) c.args.ended c.args.self.now.here c.args.self.now.around.items _ w.here w.around
-    refl (nothing_made _) (sym w.made) _ _ next _ c.put.result at.holds at.made goes.out _ c.in-List.members c.in-List.is c.put.ensures.put
+    list_raised _ _ text _ _ _ _ whole (record c.args.self.now { here = c.put_all-made.new.self }) c.args.ended c.args.self.now.here c.args.self.now.around.items _ w.here w.around
+    refl (nothing_made _) (sym w.made) _ _ next _ c.put_all-made.result at.holds at.made goes.out _ c.in-List.members c.in-List.is c.put_all-made.ensures.put
+
+pub returns-in-Choice-clause-raised : goal.returns-in-Choice-clause-raised
+returns-in-Choice-clause-raised g c whole text p next w at goes =
+    choice_raised _ _ text _ _ _ _ whole (record c.args.self.now { here = c.put_all-made-in-Choice.new.self }) c.args.ended c.args.self.now.here c.args.self.now.around.items _ w.here w.around
+    refl (nothing_made _) (sym w.made) _ _ next _ c.put_all-made-in-Choice.result at.holds at.made goes.out _ c.in-Choice.number _ c.in-Choice.is c.put_all-made-in-Choice.ensures.put
 
 pub returns-in-Item-clause-raised : goal.returns-in-Item-clause-raised
 returns-in-Item-clause-raised g c whole text p next w at goes =
     let outer = list_around _ _ text _ _ _ whole c.args.ended c.args.self.now.here c.args.self.now.around.items _ w.here w.around _ _ next at.holds at.made goes.out c.in-Item.is in
-    item_raised _ _ text _ _ _ _ whole c.end_item.new.self c.args.ended c.args.self.now.here c.args.self.now.around.items _ w.here w.around
-    (ap (λ v. v.items) c.end_item.ensures.around.around) (nothing_made _) (c.end_item.ensures.assembly ∙ sym w.made) _ _ next _ c.end_item.result at.holds at.made goes.out
-    _ outer.0 c.in-Item.is outer.1 (c.end_item.ensures.here outer.0 outer.1)
+    item_raised _ _ text _ _ _ _ whole c.end_item-made.new.self c.args.ended c.args.self.now.here c.args.self.now.around.items _ w.here w.around
+    (ap (λ v. v.items) c.end_item-made.ensures.around.around) (nothing_made _) (c.end_item-made.ensures.assembly ∙ sym w.made) _ _ next _ c.end_item-made.result at.holds at.made goes.out
+    _ outer.0 _ c.in-Item.is outer.1 (c.end_item-made.ensures.here outer.0 outer.1)
 
 pub returns-in-Operands-clause-raised : goal.returns-in-Operands-clause-raised
 returns-in-Operands-clause-raised g c whole text p next w at goes =

@@ -10,7 +10,7 @@ use Rattle.ir_tokens.specs.Tokens.{text_between}
 use Rattle.text_frames.specs.Makes.{IsSpelled}
 use Rattle.text_frames.proofs.Moving.{spelt_leaf}
 use Rattle.text_assembling.proofs.Stepping.{end_refused}
-use Rattle.text_assembling.proofs.Stepped.{on_ok_both, stepped, stepped_result, stepped_argument, stepped_operand, stepped_leaf, stepped_operation, stepped_region, stepped_block, stepped_operands, stepped_edge, stepped_value, stepped_list, stepped_item, stepped_header, stepped_end, ok_case, goes_out, can_header, header_is_full}
+use Rattle.text_assembling.proofs.Stepped.{on_ok_both, stepped, stepped_result, stepped_argument, stepped_operand, stepped_leaf, stepped_operation, stepped_region, stepped_block, stepped_operands, stepped_edge, stepped_value, stepped_list, stepped_item, stepped_choice, stepped_header, stepped_end, ok_case, goes_out, can_header, header_is_full}
 use Rattle.text_assembling.proofs.assembling.Assembler.step.Goals as goal
 
 pub returns-in-Result-clause-went : goal.returns-in-Result-clause-went
@@ -91,6 +91,14 @@ returns-in-BeginItem-clause-went g c = on_ok_weaker c.begin_item.result
           (stepped_item g.D.TextDialect.says g.D.TextDialect.values (text_between (codes_of c.args.source.now.chars) c.args.source.now.starts.now) _ c.args.self.now c.begin_item.new.self c.begin_item.ensures.made w);
     })
     c.begin_item.ensures.begun
+
+pub returns-in-BeginChoice-clause-went : goal.returns-in-BeginChoice-clause-went
+returns-in-BeginChoice-clause-went g c = on_ok_weaker c.begin_choice.result
+    (λ w. record {
+      steps = stepped g.D.TextDialect.says g.D.TextDialect.values (text_between (codes_of c.args.source.now.chars) c.args.source.now.starts.now) _ _ c.args.self.now c.begin_choice.new.self c.args.action (act.BeginChoice c.in-BeginChoice.number) c.in-BeginChoice.is
+          (stepped_choice g.D.TextDialect.says g.D.TextDialect.values (text_between (codes_of c.args.source.now.chars) c.args.source.now.starts.now) _ c.args.self.now c.begin_choice.new.self c.begin_choice.ensures.made c.in-BeginChoice.number w);
+    })
+    c.begin_choice.ensures.begun
 
 pub returns-in-Leaf-clause-went : goal.returns-in-Leaf-clause-went
 returns-in-Leaf-clause-went g c =
