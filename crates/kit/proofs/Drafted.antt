@@ -1,5 +1,5 @@
 -- What operations are made with, of their parts.
-use Rattle.std.proofs.Common.{◌≡◌, ℕ, ◌+◌, Bool, true, false, cond, ◌&&◌, ◌⊎◌, inl, inr, List, [], ◌∷◌, length, Option, Some, None, option_map, option_and_then, Vec, Global, nat_le, nat_lt, ◌==◌, ◌^◌, refl, sym, ap, ◌∙◌, subst, arith}
+use Rattle.std.proofs.Common.{◌≡◌, ℕ, zero, suc, ◌+◌, Bool, true, false, cond, ◌&&◌, ◌⊎◌, inl, inr, List, [], ◌∷◌, length, Option, Some, None, option_map, option_and_then, Vec, Global, nat_le, nat_lt, ◌==◌, ◌^◌, refl, sym, ap, ◌∙◌, subst, arith}
 use Rattle.std.proofs.lemmas.Bool.{and_parts, eqb-true, eq-eqb, leb-true, lt-ltb}
 use Rattle.std.specs.List.{slice_get}
 use Rattle.ir_base.specs.declared.types.TypeHandle.{TypeHandle}
@@ -8,7 +8,7 @@ use Rattle.ir_names.specs.declared.identifier.Identifier.{Identifier}
 use Rattle.ir_names.specs.Identifier.{text_of}
 use Rattle.ir_names.specs.Tree.{LabelledTree, Trees, node, no_tree, a_tree}
 use Rattle.ir_print.specs.declared.format.Part.{Part}
-use Rattle.ir_print.specs.Pieces.{list, item, leaf, width, value_of_kind, region, name, operands, successor, ValueTree, Pieces}
+use Rattle.ir_print.specs.Pieces.{list, item, leaf, width, value_of_kind, region, name, operands, successor, ValueTree, Pieces, chosen}
 use Rattle.ir_print.specs.Shown.{Said, said_leaf, said_type, said_attribute, Shows, Pairs, said_region, said_operands, said_successor, alone, ShowsAll, ShowsPart, ShowsType}
 use Rattle.kit_ops.specs.declared.kinds.KitOp.{KitOp}
 use Rattle.kit_ops.specs.Keys.{symbol_name, function_type, constant_value, callee, callee_type, segment_sizes}
@@ -21,9 +21,9 @@ use Rattle.kit_ops.specs.declared.attributes.KitAttr.{KitAttr}
 use Rattle.kit_ops.specs.declared.attributes.KitAttr.TheVariants as attrs
 use Rattle.kit.specs.Parts.{type_part, name_part, region_part, attribute_part, operands_part, successor_part, is_one_operand, integer_of}
 use Rattle.kit.specs.Numbers.{printed_number}
-use Rattle.kit.specs.Says.{says, one, two, only, has_values, integer_said, said_of_attribute, integer_types, is_attribute, is_name, is_type, is_region, are_operands, is_operand, is_edge, call_said, condition_said, said_of_sizes, refused_unless, refused_in}
+use Rattle.kit.specs.Says.{says, one, two, only, has_values, integer_said, said_of_attribute, integer_types, is_integer, is_name, is_type, is_region, are_operands, is_operand, is_edge, call_said, condition_said, said_of_sizes, refused_unless, refused_in}
 use Rattle.kit.specs.Making.{one_integer, module_name, function_header, one_operands, pair_type, call_header, one_edge, edge_counts, returned_by, FormDrafts, MakesForm, RefusesForm}
-use Rattle.kit.specs.Readable.{constant_said_so}
+use Rattle.kit.specs.Readable.{attribute_by, constant_said_so}
 use Rattle.kit.specs.Seen.{seen}
 use Rattle.kit.proofs.Shapes.{name_shown, not_name, region_shown, not_region, type_shown, not_type, operands_shown, not_operands, operand_shown, not_operand, successor_shown, not_successor, one_shown, two_shown, three_shown, not_one, not_two, not_three_pieces, attribute_shown}
 use Rattle.kit.proofs.Made.{and_false}
@@ -97,7 +97,7 @@ an_integer (Some other) a e = cc
 an_integer None a e = cc
 
 -- what an integer that has a text says
-integer_says : (test : Bool) (u : Trees (Said KitAttr)) (n : ℕ) (us : Trees (Said KitAttr)) → only {X = ℕ × Trees (Said KitAttr)} test (Some (0, u)) ≡ Some (n, us) → (0 ≡ n) × (u ≡ us) × (test ≡ true)
+pub integer_says : (test : Bool) (u : Trees (Said KitAttr)) (n : ℕ) (us : Trees (Said KitAttr)) → only {X = ℕ × Trees (Said KitAttr)} test (Some (0, u)) ≡ Some (n, us) → (0 ≡ n) × (u ≡ us) × (test ≡ true)
 integer_says true u n us e = let same : pair_of 0 u ≡ pair_of n us = cc in (ap (λ v. v.0) same, ap (λ v. v.1) same, refl)
 integer_says false u n us e = cc
 
@@ -106,17 +106,16 @@ abbrev pub of_type : TypeHandle → IntegerAttr → IntegerAttr
 of_type ty a = record { ty = ty; integer = a.integer; bits = a.bits }
 
 -- the bits are those of a number of the type
-abbrev fits_bits : IntegerAttr → Bool
+abbrev pub fits_bits : IntegerAttr → Bool
 fits_bits a = has_values a.integer.width && nat_lt a.bits (2 ^ a.integer.width)
 
 -- integers that have values have widths of less than 2^32 bits
-fits_width : (a : IntegerAttr) → fits_bits a ≡ true → nat_lt a.integer.width (2 ^ 32) ≡ true
+pub fits_width : (a : IntegerAttr) → fits_bits a ≡ true → nat_lt a.integer.width (2 ^ 32) ≡ true
 fits_width a h = let values = and_parts (has_values a.integer.width) (nat_lt a.bits (2 ^ a.integer.width)) h in let most = leb-true a.integer.width 64 (and_parts (nat_le 1 a.integer.width) (nat_le a.integer.width 64) values.0).1 in lt-ltb a.integer.width (2 ^ 32) (omega arith)
 
--- attributes that say anything are integers
-says_integer : (a : KitAttr) (n : ℕ) (us : Trees (Said KitAttr)) → said_of_attribute a ≡ Some (n, us) → integer_of a ≡ None → ⊥
-says_integer (attrs.Integer a) n us e f = cc
-says_integer other n us e f = cc
+-- attributes of the kind with the number 0 are integers
+other_number : (a : KitAttr) (n : ℕ) (us : Trees (Said KitAttr)) → said_of_attribute a ≡ Some (n, us) → integer_of a ≡ None → n ≡ 0 → ⊥
+other_number = attribute_by (λ a n us. integer_of a ≡ None → n ≡ 0 → ⊥) (λ a wide fits e z. cc) (λ id e z. omega (arith, z)) (λ ty e z. omega (arith, z)) (λ sizes small e z. omega (arith, z)) (λ names e z. omega (arith, z)) (λ text e z. omega (arith, z)) (λ text e z. omega (arith, z))
 
 mutual
   -- what is shown stays so where types are kept
@@ -125,6 +124,7 @@ mutual
   shows_later old new kept x (node (value_of_kind sorts.Attribute n) ts) h = (h.0, h.1, h.2, h.3, all_later old new kept h.1 ts h.4)
   shows_later old new kept x (node list ts) h = (h.0, h.1, all_later old new kept h.0 ts h.2)
   shows_later old new kept x (node item ts) h = (h.0, h.1, all_later old new kept h.0 ts h.2)
+  shows_later old new kept x (node (chosen n) ts) h = (h.0, h.1, all_later old new kept h.0 ts h.2)
   shows_later old new kept x (node (operands n) ts) h = h
   shows_later old new kept x (node (successor n) ts) h = h
   shows_later old new kept x (node region ts) h = h
@@ -141,7 +141,7 @@ width_piece : (types : List KitType) (s : Signedness) (w : ℕ) (t : ValueTree) 
 width_piece types s w t h = seen says types (alone (said_leaf (width s w))) t h
 
 -- the types of what an integer says
-integer_typed : (old new : List KitType) (i : IntegerType) (ty : TypeHandle) (x : Said KitAttr) (ts : Pieces) → nat_lt i.width (2 ^ 32) ≡ true → slice_get new ty.number ≡ Some (keys.Integer i) → ShowsAll says old (two (alone x) (alone (said_leaf (width i.signedness i.width)))) ts → Pairs (ShowsType says new) (ty ∷ []) (integer_types ts)
+pub integer_typed : (old new : List KitType) (i : IntegerType) (ty : TypeHandle) (x : Said KitAttr) (ts : Pieces) → nat_lt i.width (2 ^ 32) ≡ true → slice_get new ty.number ≡ Some (keys.Integer i) → ShowsAll says old (two (alone x) (alone (said_leaf (width i.signedness i.width)))) ts → Pairs (ShowsType says new) (ty ∷ []) (integer_types ts)
 integer_typed old new i ty x no_tree small e h = absurd h
 integer_typed old new i ty x (a_tree t no_tree) small e h = absurd h.1
 integer_typed old new i ty x (a_tree t (a_tree u (a_tree v vs))) small e h = absurd h.1.1
@@ -150,11 +150,12 @@ integer_typed old new i ty x (a_tree t (a_tree u no_tree)) small e h = let w = w
     ((ty, keys.Integer i, one (alone (said_leaf (width i.signedness i.width))), refl, e, ap (λ (b : Bool). only b (Some (0, one (alone (said_leaf (width i.signedness i.width)))))) small, (refl, tt)), tt)
 
 module _ {D : Type 0} where
-  no_integer : (types : List KitType) (p : Part D KitOp KitAttr KitType) (t : ValueTree) → option_and_then integer_of (attribute_part p) ≡ None → ShowsPart says types p t → is_attribute t ≡ false
-  no_integer types p (node (value_of_kind sorts.Attribute n) ts) e h =
+  no_integer : (types : List KitType) (p : Part D KitOp KitAttr KitType) (t : ValueTree) → option_and_then integer_of (attribute_part p) ≡ None → ShowsPart says types p t → is_integer t ≡ false
+  no_integer types p (node (value_of_kind sorts.Attribute zero) ts) e h =
       let here : option_and_then integer_of (attribute_part p) ≡ integer_of h.0 = ap (λ (q : Part D KitOp KitAttr KitType). option_and_then integer_of (attribute_part q)) h.1 in
       let same : h.0 ≡ h.2.0 = let f = h.2.2 in cc in
-      absurd (says_integer h.2.0 n h.2.1 h.2.3 (sym (ap integer_of same) ∙ (sym here ∙ e)))
+      absurd (other_number h.2.0 0 h.2.1 h.2.3 (sym (ap integer_of same) ∙ (sym here ∙ e)) refl)
+  no_integer types p (node (value_of_kind sorts.Attribute (suc n)) ts) e h = refl
   no_integer types p (node _ ts) e h = refl
 
   -- what is not one operand is no such piece
@@ -209,7 +210,7 @@ module _ {D : Type 0} where
       )
 
   pub constant_refused : (parts : List (Part D KitOp KitAttr KitType)) (types : List KitType) → one_integer parts ≡ None → RefusesForm Value parts types 0
-  constant_refused parts types e = λ ps h. ap (λ (b : Bool). refused_unless b 0) (not_one says types is_attribute parts ps h (λ p t f s. no_integer types p t (sym (ap one_integer f) ∙ e) s))
+  constant_refused parts types e = λ ps h. ap (λ (b : Bool). refused_unless b 0) (not_one says types is_integer parts ps h (λ p t f s. no_integer types p t (sym (ap one_integer f) ∙ e) s))
 
   pub module_made : (parts : List (Part D KitOp KitAttr KitType)) (id copy : Identifier) (types : List KitType) → module_name parts ≡ Some id → text_of copy ≡ text_of id → MakesForm NamedRegion parts types types ((symbol_name, attrs.Identifier copy) ∷ []) []
   module_made [] id copy types e f = cc

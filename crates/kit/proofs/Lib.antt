@@ -1,3 +1,6 @@
+pub mod AttributesMade
+pub mod AttributeParts
+pub mod AttributeShapes
 pub mod Counted
 pub mod Drafted
 pub mod Equal
@@ -11,3 +14,4 @@ pub mod Parted
 pub mod Printed
 pub mod Returned
 pub mod Shapes
+pub mod Resulting

@@ -32,14 +32,14 @@ pub memory_refuses_none : {X : Type 0} (r : Result X MakeFault) {P : Type 0} →
 memory_refuses_none (Ok x) h i e = cc
 memory_refuses_none (Err x) h i e = cc
 
-none_is_no : {X Y : Type 0} {x : X} → None ≡ Some x → Y
+pub none_is_no : {X Y : Type 0} {x : X} → None ≡ Some x → Y
 none_is_no e = cc
 
 pub no_value : {X Y : Type 0} (o : Option X) {x : X} → None ≡ o → o ≡ Some x → Y
 no_value o e f = none_is_no (e ∙ f)
 
 -- a value of two options
-both : {A B C : Type 0} (o : Option A) (p : Option B) (f : A → B → C) (z : C) → option_and_then (λ x. option_map (λ y. f x y) p) o ≡ Some z → (x : A) × (y : B) × (o ≡ Some x) × (p ≡ Some y) × (f x y ≡ z)
+pub both : {A B C : Type 0} (o : Option A) (p : Option B) (f : A → B → C) (z : C) → option_and_then (λ x. option_map (λ y. f x y) p) o ≡ Some z → (x : A) × (y : B) × (o ≡ Some x) × (p ≡ Some y) × (f x y ≡ z)
 both (Some x) (Some y) f z e = (x, y, refl, refl, cc)
 both (Some x) None f z e = cc
 both None p f z e = cc

@@ -1,5 +1,5 @@
 -- The kinds with the numbers that are read, and what is made of the parts of each.
-use Rattle.std.proofs.Common.{◌≡◌, ℕ, zero, suc, ◌-◌, ◌≤◌, List, Option, Some, None, Result, Ok, Err, option_map, option_and_then, sym, ap, ◌∙◌, subst, refl, arith}
+use Rattle.std.proofs.Common.{◌≡◌, ℕ, zero, suc, ◌-◌, ◌≤◌, List, Option, Some, None, Result, Ok, Err, option_map, option_and_then, sym, ap, ◌∙◌, subst, arith}
 use Rattle.std.specs.List.{slice_get}
 use Rattle.std.specs.Result.{IfOk}
 use Rattle.ir_base.specs.declared.types.TypeHandle.{TypeHandle}
@@ -21,7 +21,7 @@ use Rattle.kit_ops.specs.Arithmetic.{arithmetic_number, comparison_number}
 use Rattle.kit_ops.specs.Arithmetic as kinds
 use Rattle.kit_ops.proofs.Operators as operators
 use Rattle.kit.specs.Forms.{OpForm, form_of, number_of, read_ops, read_types, read_attrs}
-use Rattle.kit.specs.Making.{MakesTypeOfKind, RefusesTypeOfKind, MakesForm, RefusesForm}
+use Rattle.kit.specs.Making.{MakesTypeOfKind, RefusesTypeOfKind, MakesAttributeOfKind, RefusesAttributeOfKind, MakesForm, RefusesForm}
 use Rattle.ir_print.specs.declared.format.ValueSort.TheVariants as sorts
 use Rattle.kit.specs.Says.{says, values, said_in, numbered, refused_type, refused_attribute, refused_operation, refused_in, refused_by, result_types, result_types_in, result_types_by, canonical}
 
@@ -37,10 +37,25 @@ type_number (suc zero) kind e = let same : kind ≡ type_kinds.Function = cc in 
 type_number (suc (suc zero)) kind e = let same : kind ≡ type_kinds.Unit = cc in ap number_of_type same
 type_number (suc (suc (suc n))) kind e = cc
 
--- the number of the one kind of attributes that is read
-pub attr_number : (n : ℕ) (kind : KitAttrKind) → slice_get read_attrs n ≡ Some kind → (kind ≡ attr_kinds.Integer) × (0 ≡ n)
-attr_number zero kind e = (cc, refl)
-attr_number (suc n) kind e = cc
+-- the number of a kind of attributes
+abbrev pub number_of_attr : KitAttrKind → ℕ
+number_of_attr attr_kinds.Integer = 0
+number_of_attr attr_kinds.Identifier = 1
+number_of_attr attr_kinds.«Type» = 2
+number_of_attr attr_kinds.SegmentSizes = 3
+number_of_attr attr_kinds.GivenNames = 4
+number_of_attr attr_kinds.Note = 5
+number_of_attr attr_kinds.Origin = 6
+
+attr_number : (n : ℕ) (kind : KitAttrKind) → slice_get read_attrs n ≡ Some kind → number_of_attr kind ≡ n
+attr_number zero kind e = let same : kind ≡ attr_kinds.Integer = cc in ap number_of_attr same
+attr_number (suc zero) kind e = let same : kind ≡ attr_kinds.Identifier = cc in ap number_of_attr same
+attr_number (suc (suc zero)) kind e = let same : kind ≡ attr_kinds.«Type» = cc in ap number_of_attr same
+attr_number (suc (suc (suc zero))) kind e = let same : kind ≡ attr_kinds.SegmentSizes = cc in ap number_of_attr same
+attr_number (suc (suc (suc (suc zero)))) kind e = let same : kind ≡ attr_kinds.GivenNames = cc in ap number_of_attr same
+attr_number (suc (suc (suc (suc (suc zero))))) kind e = let same : kind ≡ attr_kinds.Note = cc in ap number_of_attr same
+attr_number (suc (suc (suc (suc (suc (suc zero)))))) kind e = let same : kind ≡ attr_kinds.Origin = cc in ap number_of_attr same
+attr_number (suc (suc (suc (suc (suc (suc (suc n))))))) kind e = cc
 
 -- what is said, with a number
 abbrev numbered_at : ℕ → Option (Trees (Said KitAttr)) → Option (ℕ × Trees (Said KitAttr))
@@ -85,7 +100,7 @@ operators_behind (suc (suc (suc (suc (suc (suc (suc (suc (suc n))))))))) h =
 refused_so : (n : ℕ) (ps : Pieces) (kind : KitOp) (form : OpForm) → slice_get read_ops n ≡ Some kind → form_of kind ≡ Some form → refused_operation n ps ≡ refused_in form ps
 refused_so n ps kind form at f = ap (λ k. refused_by (option_and_then form_of k) ps) at ∙ ap (λ g. refused_by g ps) f
 
-typed_so : (n : ℕ) (ps : Pieces) (kind : KitOp) (form : OpForm) → slice_get read_ops n ≡ Some kind → form_of kind ≡ Some form → result_types n ps ≡ result_types_in form ps
+pub typed_so : (n : ℕ) (ps : Pieces) (kind : KitOp) (form : OpForm) → slice_get read_ops n ≡ Some kind → form_of kind ≡ Some form → result_types n ps ≡ result_types_in form ps
 typed_so n ps kind form at f = ap (λ k. result_types_by (option_and_then form_of k) ps) at ∙ ap (λ g. result_types_by g ps) f
 
 module _ {D : Type 0} where
@@ -126,17 +141,24 @@ module _ {D : Type 0} where
   operation_refused kind form parts old i f h = λ n ps at s. refused_so n ps kind form at f ∙ h ps s
 
 -- what is made of the parts of an attribute, of the kind with a number
-pub attribute_made : {D : Type 0} (kind : KitAttrKind) (parts : List (Part D KitOp KitAttr KitType)) (old new : List KitType) (r : Result KitAttr MakeFault) →
-    ((ps : Pieces) → ShowsParts says old parts ps → IfOk r (λ attr. (refused_attribute 0 ps ≡ None) × ShowsAttribute says new attr (node (value_of_kind sorts.Attribute 0) (canonical 0 ps)))) →
-    IfOk r (made.MakesAttribute says values read_attrs kind old new parts)
-attribute_made kind parts old new (Ok attr) h = λ n ps at s.
-    subst (λ (k : ℕ). (refused_attribute k ps ≡ None) × ShowsAttribute says new attr (node (value_of_kind sorts.Attribute k) (canonical k ps))) (attr_number n kind at).1 (h ps s)
-attribute_made kind parts old new (Err fault) h = tt
+module _ {D : Type 0} where
+  pub attribute_made : (m : ℕ) (kind : KitAttrKind) (parts : List (Part D KitOp KitAttr KitType)) (old new : List KitType) (r : Result KitAttr MakeFault) → number_of_attr kind ≡ m →
+      ((ps : Pieces) → ShowsParts says old parts ps → IfOk r (λ attr. (refused_attribute m ps ≡ None) × ShowsAttribute says new attr (node (value_of_kind sorts.Attribute m) (canonical m ps)))) →
+      IfOk r (made.MakesAttribute says values read_attrs kind old new parts)
+  attribute_made m kind parts old new (Ok attr) e h = λ n ps at s.
+      subst (λ (k : ℕ). (refused_attribute k ps ≡ None) × ShowsAttribute says new attr (node (value_of_kind sorts.Attribute k) (canonical k ps))) (sym e ∙ attr_number n kind at) (h ps s)
+  attribute_made m kind parts old new (Err fault) e h = tt
 
-pub attribute_refused : {D : Type 0} (kind : KitAttrKind) (parts : List (Part D KitOp KitAttr KitType)) (old : List KitType) (i : ℕ) →
-    ((ps : Pieces) → ShowsParts says old parts ps → refused_attribute 0 ps ≡ Some i) → made.RefusesAttribute says values read_attrs kind old parts i
-attribute_refused kind parts old i h = λ n ps at s. subst (λ (k : ℕ). refused_attribute k ps ≡ Some i) (attr_number n kind at).1 (h ps s)
+  pub attribute_refused : (m : ℕ) (kind : KitAttrKind) (parts : List (Part D KitOp KitAttr KitType)) (old : List KitType) (i : ℕ) → number_of_attr kind ≡ m →
+      ((ps : Pieces) → ShowsParts says old parts ps → refused_attribute m ps ≡ Some i) → made.RefusesAttribute says values read_attrs kind old parts i
+  attribute_refused m kind parts old i e h = λ n ps at s. subst (λ (k : ℕ). refused_attribute k ps ≡ Some i) (sym e ∙ attr_number n kind at) (h ps s)
 
--- a kind other than that of integers has no number
-pub attribute_unread : {D : Type 0} (kind : KitAttrKind) (parts : List (Part D KitOp KitAttr KitType)) (old : List KitType) (i : ℕ) → (kind ≡ attr_kinds.Integer → ⊥) → made.RefusesAttribute says values read_attrs kind old parts i
-attribute_unread kind parts old i other = λ n ps at s. absurd (other (attr_number n kind at).0)
+  -- the same where the types stay
+  pub attribute_made_of : (m : ℕ) (kind : KitAttrKind) (parts : List (Part D KitOp KitAttr KitType)) (types : List KitType) (r : Result KitAttr MakeFault) → number_of_attr kind ≡ m → IfOk r (λ attr. MakesAttributeOfKind m parts attr) →
+      IfOk r (made.MakesAttribute says values read_attrs kind types types parts)
+  attribute_made_of m kind parts types (Ok attr) e h = attribute_made m kind parts types types (Ok attr) e (λ ps s. h types ps s)
+  attribute_made_of m kind parts types (Err fault) e h = tt
+
+  pub attribute_refused_of : (m : ℕ) (kind : KitAttrKind) (parts : List (Part D KitOp KitAttr KitType)) (types : List KitType) (i : ℕ) → number_of_attr kind ≡ m → RefusesAttributeOfKind m parts i →
+      made.RefusesAttribute says values read_attrs kind types parts i
+  attribute_refused_of m kind parts types i e h = attribute_refused m kind parts types i e (λ ps s. h types ps s)

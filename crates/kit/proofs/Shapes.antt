@@ -10,16 +10,16 @@ use Rattle.ir_names.specs.Identifier.{text_of}
 use Rattle.ir_names.specs.Tree.{node, no_tree, a_tree}
 use Rattle.ir_print.specs.declared.format.Number.{Number}
 use Rattle.ir_print.specs.declared.format.Part.{Part}
-use Rattle.ir_print.specs.declared.format.Part.TheVariants.{outs-List, outs-Type, outs-Attribute, outs-Operands, outs-Successor, outs-Region, outs-Leaf}
+use Rattle.ir_print.specs.declared.format.Part.TheVariants.{outs-List, outs-Type, outs-Attribute, outs-Operands, outs-Successor, outs-Region, outs-Leaf, outs-Choice}
 use Rattle.ir_print.specs.declared.format.Part.TheVariants as part
-use Rattle.ir_print.specs.Pieces.{Leaf, value_of_kind, list, item, operands, successor, region, leaf, name, number, width, ValueTree, Pieces}
+use Rattle.ir_print.specs.Pieces.{Leaf, value_of_kind, list, item, chosen, operands, successor, region, leaf, name, number, unsigned, width, quoted, ValueTree, Pieces}
 use Rattle.ir_print.specs.Shown.{Saying, IsNumber, IsWidth, IsLeaf, ShowsType, ShowsAttribute, ShowsPart, ShowsParts, ShowsMembers}
 use Rattle.kit_ops.specs.declared.types.IntegerType.{IntegerType}
 use Rattle.kit.specs.Parts.{number_part, integer_part, type_part, name_part, region_part, attribute_part, operands_part, successor_part, is_one_operand, list_part}
 use Rattle.ir_print.specs.declared.format.LeafValue.{LeafValue}
 use Rattle.ir_print.specs.declared.format.LeafValue.TheVariants as read
 use Rattle.ir_print.specs.declared.format.ValueSort.TheVariants as sorts
-use Rattle.kit.specs.Says.{is_small_width, is_type, is_attribute, is_name, is_region, are_operands, is_operand, is_edge, is_one, are_two, are_three}
+use Rattle.kit.specs.Says.{is_small_width, is_type, is_name, is_region, are_operands, is_operand, is_edge, is_one, are_two, are_three}
 
 either_false : (b : Bool) → (b && false) ≡ false
 either_false true = refl
@@ -34,6 +34,9 @@ some_same e = cc
 module _ {D K A T : Type 0} where
   pub a_list : (ms : Vec (Vec (Part D K A T) Global) Global) → list_part (part.List ms) ≡ Some ms
   a_list ms = rw outs-List refl
+
+  no_list-Choice : (n : ℕ) (ps : Vec (Part D K A T) Global) → list_part (part.Choice n ps) ≡ None
+  no_list-Choice n ps = rw outs-Choice refl
 
   no_list-Type : (x : TypeHandle) → list_part {D = D} {A = K} {K = A} {T = T} (part.Type x) ≡ None
   no_list-Type x = rw outs-Type refl
@@ -75,39 +78,57 @@ module _ {D K A T : Type 0} where
   name_leaf p (read.Name i) (name cs) id q e h =
       let f : Some i ≡ Some id = sym (ap name_part q) ∙ e in let same : id ≡ i = cc in (cs, refl, ap text_of same ∙ h)
   name_leaf p (read.Name i) (number b m) id q e h = absurd h
+  name_leaf p (read.Name i) (unsigned m) id q e h = absurd h
   name_leaf p (read.Name i) (width sign bits) id q e h = absurd h
+  name_leaf p (read.Name i) (quoted cs) id q e h = absurd h
   name_leaf p (read.Number o) x id q e h = none_some id (sym (ap name_part q) ∙ e)
+  name_leaf p (read.Digits o) x id q e h = none_some id (sym (ap name_part q) ∙ e)
   name_leaf p (read.Width sign o) x id q e h = none_some id (sym (ap name_part q) ∙ e)
+  name_leaf p (read.Text s) x id q e h = none_some id (sym (ap name_part q) ∙ e)
 
   no_name : (p : Part D K A T) (l : LeafValue) (cs : List ℕ) → p ≡ part.Leaf l → name_part p ≡ None → IsLeaf l (name cs) → ⊥
   no_name p (read.Name i) cs q e h = none_some i (sym e ∙ ap name_part q)
   no_name p (read.Number o) cs q e h = h
+  no_name p (read.Digits o) cs q e h = h
   no_name p (read.Width sign o) cs q e h = h
+  no_name p (read.Text s) cs q e h = h
 
   number_leaf : (p : Part D K A T) (l : LeafValue) (x : Leaf) (n : Number) → p ≡ part.Leaf l → number_part p ≡ Some n → IsLeaf l x → x ≡ number n.is_negative n.magnitude
   number_leaf p (read.Number o) (number b m) n q e h = number_bits b m o n (sym (ap number_part q) ∙ e) h
   number_leaf p (read.Number o) (name cs) n q e h = absurd h
+  number_leaf p (read.Number o) (unsigned m) n q e h = absurd h
   number_leaf p (read.Number o) (width sign bits) n q e h = absurd h
+  number_leaf p (read.Number o) (quoted cs) n q e h = absurd h
   number_leaf p (read.Name i) x n q e h = none_some n (sym (ap number_part q) ∙ e)
+  number_leaf p (read.Digits o) x n q e h = none_some n (sym (ap number_part q) ∙ e)
   number_leaf p (read.Width sign o) x n q e h = none_some n (sym (ap number_part q) ∙ e)
+  number_leaf p (read.Text s) x n q e h = none_some n (sym (ap number_part q) ∙ e)
 
   pub number_none : (p : Part D K A T) (l : LeafValue) (b : Bool) (m : ℕ) → p ≡ part.Leaf l → number_part p ≡ None → IsLeaf l (number b m) → (o : Option Number) × (o ≡ None) × IsNumber o b m
   number_none p (read.Number o) b m q e h = (o, sym (ap number_part q) ∙ e, h)
   number_none p (read.Name i) b m q e h = absurd h
+  number_none p (read.Digits o) b m q e h = absurd h
   number_none p (read.Width sign o) b m q e h = absurd h
+  number_none p (read.Text s) b m q e h = absurd h
 
   width_leaf : (p : Part D K A T) (l : LeafValue) (x : Leaf) (i : IntegerType) → p ≡ part.Leaf l → integer_part p ≡ Some i → IsLeaf l x → x ≡ width i.signedness i.width
   width_leaf p (read.Width s o) (width sign bits) i q e h =
       ap (λ (z : Signedness). width z bits) (sym h.0) ∙ width_bits s bits o i (sym (ap integer_part q) ∙ e) h.1
   width_leaf p (read.Width s o) (name cs) i q e h = absurd h
   width_leaf p (read.Width s o) (number b m) i q e h = absurd h
+  width_leaf p (read.Width s o) (unsigned m) i q e h = absurd h
+  width_leaf p (read.Width s o) (quoted cs) i q e h = absurd h
   width_leaf p (read.Name id) x i q e h = none_some i (sym (ap integer_part q) ∙ e)
   width_leaf p (read.Number o) x i q e h = none_some i (sym (ap integer_part q) ∙ e)
+  width_leaf p (read.Digits o) x i q e h = none_some i (sym (ap integer_part q) ∙ e)
+  width_leaf p (read.Text s) x i q e h = none_some i (sym (ap integer_part q) ∙ e)
 
   pub wide_leaf : (p : Part D K A T) (l : LeafValue) (sign : Signedness) (bits : ℕ) → p ≡ part.Leaf l → integer_part p ≡ None → IsLeaf l (width sign bits) → 2 ^ 32 ≤ bits
   wide_leaf p (read.Width s o) sign bits q e h = wide s bits o (sym (ap integer_part q) ∙ e) h.1
   wide_leaf p (read.Name id) sign bits q e h = absurd h
   wide_leaf p (read.Number o) sign bits q e h = absurd h
+  wide_leaf p (read.Digits o) sign bits q e h = absurd h
+  wide_leaf p (read.Text s) sign bits q e h = absurd h
 
 module _ {D K A T : Type 0} (says : Saying K A T) (types : List T) where
   -- a name is the piece that names it
@@ -116,6 +137,7 @@ module _ {D K A T : Type 0} (says : Saying K A T) (types : List T) where
   name_shown p x (node (value_of_kind sorts.Attribute n) ts) e h = let f = ap name_part h.1 in cc
   name_shown p x (node list ts) e h = let f = ap name_part h.1 in cc
   name_shown p x (node item ts) e h = absurd h
+  name_shown p x (node (chosen n) ts) e h = let f = ap name_part h.1 in cc
   name_shown p x (node (operands n) ts) e h = let f = ap name_part h in cc
   name_shown p x (node (successor n) ts) e h = let f = ap name_part h in cc
   name_shown p x (node region ts) e h = let f = ap name_part h in cc
@@ -128,12 +150,15 @@ module _ {D K A T : Type 0} (says : Saying K A T) (types : List T) where
   not_name p (node (value_of_kind sort n) ts) e h = refl
   not_name p (node list ts) e h = refl
   not_name p (node item ts) e h = refl
+  not_name p (node (chosen n) ts) e h = refl
   not_name p (node (operands n) ts) e h = refl
   not_name p (node (successor n) ts) e h = refl
   not_name p (node region ts) e h = refl
   not_name p (node (leaf (name cs)) ts) e h = absurd (no_name p h.0 cs h.1 e h.2)
   not_name p (node (leaf (number b m)) ts) e h = refl
+  not_name p (node (leaf (unsigned m)) ts) e h = refl
   not_name p (node (leaf (width sign bits)) ts) e h = refl
+  not_name p (node (leaf (quoted cs)) ts) e h = refl
 
   -- a type is the piece of what its handle stands for
   pub type_shown : (p : Part D K A T) (x : TypeHandle) (t : ValueTree) → type_part p ≡ Some x → ShowsPart says types p t → (n : ℕ) × (ts : Pieces) × (t ≡ node (value_of_kind sorts.«Type» n) ts) × ShowsType says types x (node (value_of_kind sorts.«Type» n) ts)
@@ -141,6 +166,7 @@ module _ {D K A T : Type 0} (says : Saying K A T) (types : List T) where
   type_shown p x (node (value_of_kind sorts.Attribute n) ts) e h = let f = ap type_part h.1 in cc
   type_shown p x (node list ts) e h = let f = ap type_part h.1 in cc
   type_shown p x (node item ts) e h = absurd h
+  type_shown p x (node (chosen n) ts) e h = let f = ap type_part h.1 in cc
   type_shown p x (node (operands n) ts) e h = let f = ap type_part h in cc
   type_shown p x (node (successor n) ts) e h = let f = ap type_part h in cc
   type_shown p x (node region ts) e h = let f = ap type_part h in cc
@@ -152,6 +178,7 @@ module _ {D K A T : Type 0} (says : Saying K A T) (types : List T) where
   not_type p (node (value_of_kind sorts.Attribute n) ts) e h = refl
   not_type p (node list ts) e h = refl
   not_type p (node item ts) e h = refl
+  not_type p (node (chosen n) ts) e h = refl
   not_type p (node (operands n) ts) e h = refl
   not_type p (node (successor n) ts) e h = refl
   not_type p (node region ts) e h = refl
@@ -163,6 +190,7 @@ module _ {D K A T : Type 0} (says : Saying K A T) (types : List T) where
   region_shown p x (node (value_of_kind sorts.Attribute n) ts) e h = let f = ap region_part h.1 in cc
   region_shown p x (node list ts) e h = let f = ap region_part h.1 in cc
   region_shown p x (node item ts) e h = absurd h
+  region_shown p x (node (chosen n) ts) e h = let f = ap region_part h.1 in cc
   region_shown p x (node (operands n) ts) e h = let f = ap region_part h in cc
   region_shown p x (node (successor n) ts) e h = let f = ap region_part h in cc
   region_shown p x (node region ts) e h = (ts, refl)
@@ -173,6 +201,7 @@ module _ {D K A T : Type 0} (says : Saying K A T) (types : List T) where
   not_region p (node (value_of_kind sort n) ts) e h = refl
   not_region p (node list ts) e h = refl
   not_region p (node item ts) e h = refl
+  not_region p (node (chosen n) ts) e h = refl
   not_region p (node (operands n) ts) e h = refl
   not_region p (node (successor n) ts) e h = refl
   not_region p (node region ts) e h = let f = ap region_part h in cc
@@ -184,21 +213,11 @@ module _ {D K A T : Type 0} (says : Saying K A T) (types : List T) where
   attribute_shown p x (node (value_of_kind sorts.Attribute n) ts) e h = let f = ap attribute_part h.1 in let same : h.0 ≡ x = cc in (n, ts, refl, subst (λ (a : A). ShowsAttribute says types a (node (value_of_kind sorts.Attribute n) ts)) same h.2)
   attribute_shown p x (node list ts) e h = let f = ap attribute_part h.1 in cc
   attribute_shown p x (node item ts) e h = absurd h
+  attribute_shown p x (node (chosen n) ts) e h = let f = ap attribute_part h.1 in cc
   attribute_shown p x (node (operands n) ts) e h = let f = ap attribute_part h in cc
   attribute_shown p x (node (successor n) ts) e h = let f = ap attribute_part h in cc
   attribute_shown p x (node region ts) e h = let f = ap attribute_part h in cc
   attribute_shown p x (node (leaf l) ts) e h = let f = ap attribute_part h.1 in cc
-
-  -- what is no attribute is no such piece
-  pub not_attribute : (p : Part D K A T) (t : ValueTree) → attribute_part p ≡ None → ShowsPart says types p t → is_attribute t ≡ false
-  not_attribute p (node (value_of_kind sorts.«Type» n) ts) e h = refl
-  not_attribute p (node (value_of_kind sorts.Attribute n) ts) e h = let f = ap attribute_part h.1 in cc
-  not_attribute p (node list ts) e h = refl
-  not_attribute p (node item ts) e h = refl
-  not_attribute p (node (operands n) ts) e h = refl
-  not_attribute p (node (successor n) ts) e h = refl
-  not_attribute p (node region ts) e h = refl
-  not_attribute p (node (leaf x) ts) e h = refl
 
   -- operands are the piece of their number
   pub operands_shown : (p : Part D K A T) (x : ℕ) (t : ValueTree) → operands_part p ≡ Some x → ShowsPart says types p t → (ts : Pieces) × (t ≡ node (operands x) ts)
@@ -206,6 +225,7 @@ module _ {D K A T : Type 0} (says : Saying K A T) (types : List T) where
   operands_shown p x (node (value_of_kind sorts.Attribute n) ts) e h = let f = ap operands_part h.1 in cc
   operands_shown p x (node list ts) e h = let f = ap operands_part h.1 in cc
   operands_shown p x (node item ts) e h = absurd h
+  operands_shown p x (node (chosen n) ts) e h = let f = ap operands_part h.1 in cc
   operands_shown p x (node (operands n) ts) e h = let f = ap operands_part h in let same : n ≡ x = cc in (ts, ap (λ (i : ℕ). node (operands i) ts) same)
   operands_shown p x (node (successor n) ts) e h = let f = ap operands_part h in cc
   operands_shown p x (node region ts) e h = let f = ap operands_part h in cc
@@ -216,6 +236,7 @@ module _ {D K A T : Type 0} (says : Saying K A T) (types : List T) where
   not_operands p (node (value_of_kind sort n) ts) e h = refl
   not_operands p (node list ts) e h = refl
   not_operands p (node item ts) e h = refl
+  not_operands p (node (chosen n) ts) e h = refl
   not_operands p (node (operands n) ts) e h = let f = ap operands_part h in cc
   not_operands p (node (successor n) ts) e h = refl
   not_operands p (node region ts) e h = refl
@@ -227,6 +248,7 @@ module _ {D K A T : Type 0} (says : Saying K A T) (types : List T) where
   successor_shown p x (node (value_of_kind sorts.Attribute n) ts) e h = let f = ap successor_part h.1 in cc
   successor_shown p x (node list ts) e h = let f = ap successor_part h.1 in cc
   successor_shown p x (node item ts) e h = absurd h
+  successor_shown p x (node (chosen n) ts) e h = let f = ap successor_part h.1 in cc
   successor_shown p x (node (operands n) ts) e h = let f = ap successor_part h in cc
   successor_shown p x (node (successor n) ts) e h = let f = ap successor_part h in let same : n ≡ x = cc in (ts, ap (λ (i : ℕ). node (successor i) ts) same)
   successor_shown p x (node region ts) e h = let f = ap successor_part h in cc
@@ -237,6 +259,7 @@ module _ {D K A T : Type 0} (says : Saying K A T) (types : List T) where
   not_successor p (node (value_of_kind sort n) ts) e h = refl
   not_successor p (node list ts) e h = refl
   not_successor p (node item ts) e h = refl
+  not_successor p (node (chosen n) ts) e h = refl
   not_successor p (node (operands n) ts) e h = refl
   not_successor p (node (successor n) ts) e h = let f = ap successor_part h in cc
   not_successor p (node region ts) e h = refl
@@ -248,6 +271,7 @@ module _ {D K A T : Type 0} (says : Saying K A T) (types : List T) where
   operand_shown p (node (value_of_kind sorts.Attribute n) ts) e h = let f = ap is_one_operand h.1 in cc
   operand_shown p (node list ts) e h = let f = ap is_one_operand h.1 in cc
   operand_shown p (node item ts) e h = absurd h
+  operand_shown p (node (chosen n) ts) e h = let f = ap is_one_operand h.1 in cc
   operand_shown p (node (operands n) ts) e h = (ts, ap (λ (i : ℕ). node (operands i) ts) (eqb-true n 1 (sym (ap is_one_operand h) ∙ e)))
   operand_shown p (node (successor n) ts) e h = let f = ap is_one_operand h in cc
   operand_shown p (node region ts) e h = let f = ap is_one_operand h in cc
@@ -258,6 +282,7 @@ module _ {D K A T : Type 0} (says : Saying K A T) (types : List T) where
   not_operand p (node (value_of_kind sort n) ts) e h = refl
   not_operand p (node list ts) e h = refl
   not_operand p (node item ts) e h = refl
+  not_operand p (node (chosen n) ts) e h = refl
   not_operand p (node (operands n) ts) e h = sym (ap is_one_operand h) ∙ e
   not_operand p (node (successor n) ts) e h = refl
   not_operand p (node region ts) e h = refl
@@ -269,6 +294,7 @@ module _ {D K A T : Type 0} (says : Saying K A T) (types : List T) where
   number_shown p x (node (value_of_kind sorts.Attribute n) ts) e h = let f = ap number_part h.1 in cc
   number_shown p x (node list ts) e h = let f = ap number_part h.1 in cc
   number_shown p x (node item ts) e h = absurd h
+  number_shown p x (node (chosen n) ts) e h = let f = ap number_part h.1 in cc
   number_shown p x (node (operands n) ts) e h = let f = ap number_part h in cc
   number_shown p x (node (successor n) ts) e h = let f = ap number_part h in cc
   number_shown p x (node region ts) e h = let f = ap number_part h in cc
@@ -280,6 +306,7 @@ module _ {D K A T : Type 0} (says : Saying K A T) (types : List T) where
   list_shown p x (node (value_of_kind sorts.Attribute n) ts) e h = none_some x (sym (no_list-Attribute h.0) ∙ (sym (ap list_part h.1) ∙ e))
   list_shown p x (node list ts) e h = let same : h.0 ≡ x = some_same (sym (a_list h.0) ∙ (sym (ap list_part h.1) ∙ e)) in (ts, refl, subst (λ (ms : Vec (Vec (Part D K A T) Global) Global). ShowsMembers says types ms.items ts) same h.2)
   list_shown p x (node item ts) e h = absurd h
+  list_shown p x (node (chosen n) ts) e h = none_some x (sym (no_list-Choice n h.0) ∙ (sym (ap list_part h.1) ∙ e))
   list_shown p x (node (operands n) ts) e h = none_some x (sym (no_list-Operands n) ∙ (sym (ap list_part h) ∙ e))
   list_shown p x (node (successor n) ts) e h = none_some x (sym (no_list-Successor n) ∙ (sym (ap list_part h) ∙ e))
   list_shown p x (node region ts) e h = none_some x (sym (no_list-Region) ∙ (sym (ap list_part h) ∙ e))
@@ -291,6 +318,7 @@ module _ {D K A T : Type 0} (says : Saying K A T) (types : List T) where
   width_shown p x (node (value_of_kind sorts.Attribute n) ts) e h = let f = ap integer_part h.1 in cc
   width_shown p x (node list ts) e h = let f = ap integer_part h.1 in cc
   width_shown p x (node item ts) e h = absurd h
+  width_shown p x (node (chosen n) ts) e h = let f = ap integer_part h.1 in cc
   width_shown p x (node (operands n) ts) e h = let f = ap integer_part h in cc
   width_shown p x (node (successor n) ts) e h = let f = ap integer_part h in cc
   width_shown p x (node region ts) e h = let f = ap integer_part h in cc
@@ -301,11 +329,14 @@ module _ {D K A T : Type 0} (says : Saying K A T) (types : List T) where
   not_width p (node (value_of_kind sort n) ts) e h = refl
   not_width p (node list ts) e h = refl
   not_width p (node item ts) e h = refl
+  not_width p (node (chosen n) ts) e h = refl
   not_width p (node (operands n) ts) e h = refl
   not_width p (node (successor n) ts) e h = refl
   not_width p (node region ts) e h = refl
   not_width p (node (leaf (name cs)) ts) e h = refl
   not_width p (node (leaf (number b m)) ts) e h = refl
+  not_width p (node (leaf (unsigned m)) ts) e h = refl
+  not_width p (node (leaf (quoted cs)) ts) e h = refl
   not_width p (node (leaf (width sign bits)) ts) e h = let big = wide_leaf p h.0 sign bits h.1 e h.2 in grind (arith, nat_tests)
 
   -- parts are as many pieces

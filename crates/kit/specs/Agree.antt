@@ -20,7 +20,7 @@ use Rattle.kit_ops.specs.declared.types.FunctionType.{FunctionType}
 use Rattle.kit_ops.specs.declared.attributes.KitAttr.{KitAttr}
 use Rattle.kit_ops.specs.declared.types.IntegerType.{IntegerType}
 use Rattle.kit.specs.Forms.{form_of, read_ops, read_types, read_attrs}
-use Rattle.kit.specs.Says.{one, two, only, types_said, said_of_type, refused_type, refused_attribute, refused_by, refused_operation}
+use Rattle.kit.specs.Says.{one, two, only, types_said, said_of_type, refused_type, refused_attribute, refused_by, refused_operation, result_types, result_types_by}
 
 -- equal signs are the same
 signs : (s t : Signedness) → (of_signs.ghosts).eq s t ≡ true → s ≡ t
@@ -89,8 +89,14 @@ unknown_type (suc (suc (suc n))) ps h = refl
 -- where no kind of attributes has the number
 pub unknown_attribute : (n : ℕ) (ps : Pieces) → slice_get read_attrs n ≡ None → refused_attribute n ps ≡ Some 0
 unknown_attribute zero ps h = absurd (true≢false (ap is_some h))
-unknown_attribute (suc n) ps h = refl
+unknown_attribute (suc zero) ps h = absurd (true≢false (ap is_some h))
+unknown_attribute (suc (suc zero)) ps h = absurd (true≢false (ap is_some h))
+unknown_attribute (suc (suc (suc zero))) ps h = absurd (true≢false (ap is_some h))
+unknown_attribute (suc (suc (suc (suc zero)))) ps h = absurd (true≢false (ap is_some h))
+unknown_attribute (suc (suc (suc (suc (suc zero))))) ps h = absurd (true≢false (ap is_some h))
+unknown_attribute (suc (suc (suc (suc (suc (suc zero)))))) ps h = absurd (true≢false (ap is_some h))
+unknown_attribute (suc (suc (suc (suc (suc (suc (suc n))))))) ps h = refl
 
 -- where no kind of operations has the number
-pub unknown_operation : (n : ℕ) (ps : Pieces) → slice_get read_ops n ≡ None → refused_operation n ps ≡ Some 0
-unknown_operation n ps h = ap (λ kind. refused_by (option_and_then form_of kind) ps) h
+pub unknown_operation : (n : ℕ) (ps : Pieces) → slice_get read_ops n ≡ None → (refused_operation n ps ≡ Some 0) × (result_types n ps ≡ [])
+unknown_operation n ps h = (ap (λ kind. refused_by (option_and_then form_of kind) ps) h, ap (λ kind. result_types_by (option_and_then form_of kind) ps) h)

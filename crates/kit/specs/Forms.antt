@@ -1,6 +1,6 @@
 -- Which kinds of `kit` can be read, in the order of their numbers, and what follows the dotted name of each: its form.
 use Rattle.std.specs.Prelude.{ℕ, suc, List, [], ◌∷◌, map, codes, Option, Some, None}
-use Rattle.ir_print.specs.Formats.{Formats, Kind, Step, Steps, no_steps, steps, word, operand, operands, successor, a_value, a_region, symbol_name, a_leaf, list_of}
+use Rattle.ir_print.specs.Formats.{Formats, Kind, Step, Steps, no_steps, steps, word, operand, operands, successor, a_value, a_region, symbol_name, a_leaf, list_of, choice_of, no_choice, a_choice}
 use Rattle.text_dialect.specs.Ids.{dotted}
 use Rattle.kit_ops.specs.declared.kinds.KitOp.{KitOp}
 use Rattle.kit_ops.specs.declared.kinds.KitOp.TheVariants as ops
@@ -66,7 +66,7 @@ read_types = type_kinds.Integer ∷ type_kinds.Function ∷ type_kinds.Unit ∷ 
 
 -- the kinds of attributes that can be read, by number
 abbrev pub read_attrs : List KitAttrKind
-read_attrs = attr_kinds.Integer ∷ []
+read_attrs = attr_kinds.Integer ∷ attr_kinds.Identifier ∷ attr_kinds.«Type» ∷ attr_kinds.SegmentSizes ∷ attr_kinds.GivenNames ∷ attr_kinds.Note ∷ attr_kinds.Origin ∷ []
 
 -- ---- formats
 
@@ -101,10 +101,27 @@ steps_of_type type_kinds.Function = steps
     ∷ word (codes "(") (codes "(") ∷ type_list ∷ word (codes ")") (codes ")") ∷ word (codes ">") (codes ">") ∷ [])
 steps_of_type type_kinds.Unit = steps []
 
--- what follows the dotted name of a kind of attributes; integers alone can be read
+-- numbers with commas between them
+abbrev pub number_list : Step
+number_list = list_of (steps ((a_leaf leaves.Digits) ∷ [])) (codes ", ") (codes ",")
+
+-- a name, or `?` where there is none
+abbrev pub name_or_none : Step
+name_or_none = choice_of (a_choice (steps ((a_leaf leaves.Name) ∷ [])) (a_choice (steps (word (codes "?") (codes "?") ∷ [])) no_choice))
+
+-- these with commas between them
+abbrev pub name_list : Step
+name_list = list_of (steps (name_or_none ∷ [])) (codes ", ") (codes ",")
+
+-- what follows the dotted name of a kind of attributes
 abbrev pub steps_of_attr : KitAttrKind → Steps
 steps_of_attr attr_kinds.Integer = steps (word (codes "<") (codes "<") ∷ (a_leaf leaves.Number) ∷ word (codes ": ") (codes ":") ∷ (a_leaf leaves.Width) ∷ word (codes ">") (codes ">") ∷ [])
-steps_of_attr _ = no_steps
+steps_of_attr attr_kinds.Identifier = steps ((a_leaf leaves.Name) ∷ [])
+steps_of_attr attr_kinds.«Type» = steps ((a_value sorts.«Type») ∷ [])
+steps_of_attr attr_kinds.SegmentSizes = steps (word (codes "[") (codes "[") ∷ number_list ∷ word (codes "]") (codes "]") ∷ [])
+steps_of_attr attr_kinds.GivenNames = steps (word (codes "[") (codes "[") ∷ name_list ∷ word (codes "]") (codes "]") ∷ [])
+steps_of_attr attr_kinds.Note = steps ((a_leaf leaves.Text) ∷ [])
+steps_of_attr attr_kinds.Origin = steps ((a_leaf leaves.Text) ∷ [])
 
 -- each kind, with its dotted name
 abbrev pub op_kind : KitOp → Kind

@@ -1,10 +1,11 @@
--- The parts of which integers are read, and which are printed.
-use Rattle.std.specs.Prelude.{◌≡◌, ◌==◌, ℕ, Bool, false, Vec, List, [], ◌∷◌, ◌++◌, map, Option, Some, None, option_map}
+-- What parts that were read are, and the parts that are printed.
+use Rattle.std.specs.Prelude.{◌≡◌, ◌==◌, ◌^◌, ℕ, Bool, false, Vec, List, [], ◌∷◌, ◌++◌, map, Option, Some, None, option_map, option_and_then, cond, nat_lt, String, string_bytes}
 use Rattle.std.specs.Global.{Global}
 use Rattle.ir_names.specs.declared.identifier.Identifier.{Identifier}
 use Rattle.ir_names.specs.Identifier.{text_of}
 use Rattle.ir_base.specs.declared.types.TypeHandle.{TypeHandle}
 use Rattle.ir_print.specs.declared.format.Number.{Number}
+use Rattle.ir_print.specs.Shown.{Pairs}
 use Rattle.ir_print.specs.declared.format.Part.{Part, Part-F, out-Part}
 use Rattle.ir_print.specs.declared.format.Part.TheVariants as parts
 use Rattle.kit_ops.specs.declared.types.IntegerType.{IntegerType}
@@ -13,6 +14,10 @@ use Rattle.kit_ops.specs.declared.attributes.KitAttr.{KitAttr}
 use Rattle.kit_ops.specs.declared.attributes.KitAttr.TheVariants as attrs
 use Rattle.ir_print.specs.declared.format.LeafValue.TheVariants as read
 use Rattle.kit.specs.Numbers.{HasFittingBits, printed_number}
+
+-- the number, where it has at most 32 bits
+abbrev pub small_size : ℕ → Option ℕ
+small_size n = cond (nat_lt n (2 ^ 32)) (Some n) None
 
 module _ {D A K T : Type 0} where
   -- the number that a part is
@@ -103,6 +108,29 @@ module _ {D A K T : Type 0} where
   is_one_operand (parts.Leaf x) = false
   is_one_operand other = false
 
+  -- the number of at most 32 bits that a part is
+  abbrev pub size_part : Part D A K T → Option ℕ
+  size_part (parts.Operands n) = None
+  size_part (parts.Attribute a) = None
+  size_part (parts.Type t) = None
+  size_part parts.Region = None
+  size_part (parts.Leaf (read.Name n)) = None
+  size_part (parts.Leaf (read.Number n)) = None
+  size_part (parts.Leaf (read.Digits n)) = option_and_then small_size n
+  size_part other = None
+
+  -- the bytes of the text in quotes that a part is
+  abbrev pub text_part : Part D A K T → Option (List ℕ)
+  text_part (parts.Operands n) = None
+  text_part (parts.Attribute a) = None
+  text_part (parts.Type t) = None
+  text_part parts.Region = None
+  text_part (parts.Leaf (read.Name n)) = None
+  text_part (parts.Leaf (read.Number n)) = None
+  text_part (parts.Leaf (read.Width s w)) = None
+  text_part (parts.Leaf (read.Text s)) = Some (string_bytes s)
+  text_part other = None
+
   -- the list that a layer of a part is
   abbrev pub list_layer : Part-F D A K T (Part D A K T) → Option (Vec (Vec (Part D A K T) Global) Global)
   list_layer (Part-F.List ms) = Some ms
@@ -111,6 +139,33 @@ module _ {D A K T : Type 0} where
   -- the list that a part is
   abbrev pub list_part : Part D A K T → Option (Vec (Vec (Part D A K T) Global) Global)
   list_part p = list_layer (out-Part D A K T p)
+
+  -- the choice that a layer of a part is: the number of the format, and what it says
+  abbrev pub choice_layer : Part-F D A K T (Part D A K T) → Option (ℕ × Vec (Part D A K T) Global)
+  choice_layer (Part-F.Choice n ps) = Some (n, ps)
+  choice_layer other = None
+
+  -- the choice that a part is
+  abbrev pub choice_part : Part D A K T → Option (ℕ × Vec (Part D A K T) Global)
+  choice_part p = choice_layer (out-Part D A K T p)
+
+  -- the part is a list with a member for each of these, which it stands in this relation to
+  abbrev pub IsListOf : {X : Type 0} → (List (Part D A K T) → X → Type 0) → List X → Part D A K T → Type 0
+  IsListOf R xs p = (ms : Vec (Vec (Part D A K T) Global) Global) × (p ≡ parts.List ms) × Pairs (λ m x. R m.items x) ms.items xs
+
+  -- the parts are a number without a sign
+  abbrev pub AreSizeParts : List (Part D A K T) → ℕ → Type 0
+  AreSizeParts ps n = ps ≡ parts.Leaf (read.Digits (Some n)) ∷ []
+
+  -- the parts are a name with this text, or say that there is none
+  abbrev pub AreGivenNameParts : List (Part D A K T) → Option (List ℕ) → Type 0
+  AreGivenNameParts ps (Some cs) =
+      (id : Identifier) × (text_of id ≡ cs) × (inner : Vec (Part D A K T) Global) × (ps ≡ parts.Choice 0 inner ∷ []) × (inner.items ≡ parts.Leaf (read.Name id) ∷ [])
+  AreGivenNameParts ps None = (inner : Vec (Part D A K T) Global) × (ps ≡ parts.Choice 1 inner ∷ []) × (inner.items ≡ [])
+
+  -- the parts are a text in quotes, of these bytes
+  abbrev pub AreTextParts : List ℕ → List (Part D A K T) → Type 0
+  AreTextParts bytes ps = (text : String Global) × (string_bytes text ≡ bytes) × (ps ≡ parts.Leaf (read.Text text) ∷ [])
 
   -- the part is a list with a member for each of these types
   abbrev pub IsTypeList : List TypeHandle → Part D A K T → Type 0

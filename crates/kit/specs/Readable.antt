@@ -1,9 +1,10 @@
 -- What types, attributes and operations say has the shape of their formats, and can be read.
-use Rattle.std.specs.Prelude.{Vec, ◌≡◌, ℕ, suc, ◌+◌, ◌-◌, ◌*◌, ◌%◌, ◌^◌, ◌<◌, ◌≤◌, ◌==◌, ◌&&◌, nat_le, nat_lt, Bool, true, false, List, [], ◌∷◌, length, Option, Some, None, option_map, option_and_then, cond, slice_get, refl}
+use Rattle.std.specs.Prelude.{Vec, ◌≡◌, ℕ, suc, ◌+◌, ◌-◌, ◌*◌, ◌%◌, ◌^◌, ◌<◌, ◌≤◌, ◌==◌, ◌&&◌, nat_le, nat_lt, Bool, true, false, List, [], ◌∷◌, length, map, Option, Some, None, option_map, option_and_then, cond, slice_get, String, string_bytes, chars, refl}
 use Rattle.std.proofs.Common.{sym, ap, ◌∙◌, subst, arith}
 use Rattle.std.proofs.Math.Pow.{pow_mono}
 use Rattle.std.proofs.Math.Nat.{mod-eq_of_lt}
 use Rattle.std.proofs.lemmas.Bool.{and_parts, eqb-true, eq-eqb, ltb-true, lt-ltb, leb-true, le-leb}
+use Rattle.std.proofs.lemmas.Str.{scalars-chars, IsUtf8-string_bytes}
 use Rattle.std.proofs.lemmas.Option.{none-some, same_Some, some_pair_parts, slice_get-map}
 use Rattle.std.specs.Global.{Global}
 use Rattle.ir_base.specs.declared.types.TypeHandle.{TypeHandle}
@@ -11,10 +12,11 @@ use Rattle.ir_names.specs.declared.kinds.Signedness.{Signedness}
 use Rattle.ir_names.specs.declared.identifier.Identifier.{Identifier}
 use Rattle.ir_names.specs.Dictionary.{attribute_at}
 use Rattle.ir_names.specs.Identifier.{text_of}
-use Rattle.ir_names.specs.Tree.{Trees, node, no_tree, a_tree}
+use Rattle.ir_names.specs.Tree.{LabelledTree, Trees, node, no_tree, a_tree}
 use Rattle.ir_print.specs.declared.format.Number.{Number}
-use Rattle.ir_print.specs.Formats.{a_value}
-use Rattle.ir_print.specs.Pieces.{value_of_kind, list, item, operands, successor, region, leaf, name, number, width, ValueTree, Pieces}
+use Rattle.ir_print.specs.Formats.{a_value, a_leaf}
+use Rattle.ir_print.specs.declared.format.LeafSort.TheVariants as leaves
+use Rattle.ir_print.specs.Pieces.{value_of_kind, list, item, operands, successor, region, leaf, name, number, width, quoted, ValueTree, Pieces}
 use Rattle.ir_print.specs.Shown.{Said, said_type, said_attribute, said_list, said_item, said_operands, said_successor, said_region, said_leaf, alone, ShowsAll, operands_said}
 use Rattle.kit_ops.specs.declared.kinds.KitOp.{KitOp}
 use Rattle.kit_ops.specs.declared.kinds.KitOp.TheVariants as ops
@@ -30,9 +32,9 @@ use Rattle.kit_ops.specs.Keys.{symbol_name, function_type, constant_value, calle
 use Rattle.kit_ops.specs.Kinds.{type_kind, attr_kind}
 use Rattle.kit_ops.specs.Arithmetic.{arithmetic_number, comparison_number}
 use Rattle.kit_ops.proofs.Operators.{arithmetic_at, comparison_at}
-use Rattle.kit.specs.Forms.{OpForm, NamedRegion, TypedRegion, Value, TwoOperands, OneOperand, AnyOperands, Empty, Called, Edge, ConditionEdges, form_of, number_of, steps_in, steps_of_form, read_ops, read_types, read_attrs, formats, op_kind, type_form, attr_form}
-use Rattle.kit.specs.Says.{says, values, one, two, only, types_said, said_of_type, said_of_attribute, said_of_operation, said_of_module, said_of_function, is_same_type, said_of_constant, said_of_pair, pair_said, said_of_call, call_said, condition_said, said_of_sizes, said_of_condition, said_in, numbered, has_values, integer_said, refused_unless, is_type_member, are_types, is_number_of, refused_type, refused_attribute, refused_in, refused_by, canonical}
-use Rattle.kit.specs.Seen.{none_seen, first_seen, one_seen, two_seen, three_seen}
+use Rattle.kit.specs.Forms.{OpForm, NamedRegion, TypedRegion, Value, TwoOperands, OneOperand, AnyOperands, Empty, Called, Edge, ConditionEdges, form_of, number_of, steps_in, steps_of_form, read_ops, read_types, read_attrs, formats, op_kind, type_form, attr_form, name_or_none}
+use Rattle.kit.specs.Says.{says, values, one, two, only, types_said, said_of_type, said_of_attribute, said_of_operation, said_of_module, said_of_function, is_same_type, said_of_constant, said_of_pair, pair_said, said_of_call, call_said, condition_said, said_of_sizes, said_of_condition, said_in, numbered, has_values, integer_said, members_said, size_said, given_name_said, text_said, are_sizes, refused_unless, are_none, is_one, is_name, is_size, is_text, is_name_or_none, first_refused, is_type_member, are_types, is_number_of, refused_type, refused_attribute, refused_in, refused_by, canonical}
+use Rattle.kit.specs.Seen.{SeenPiece, none_seen, first_seen, one_seen, two_seen, three_seen}
 use Rattle.ir_print.specs.declared.format.ValueSort.TheVariants as sorts
 use Rattle.ir_print.specs.Shapes.{parts_in, AreSaidAt, AreMembersSaidAt, IsTypeSaid, IsAttributeSaid, SaysTypes, SaysAttributes, SaysOperations}
 
@@ -173,13 +175,142 @@ integer_attribute_said a wide fits context ps h =
       canonical = ap (canonical 0) is ∙ (ap (λ (bits : ℕ). number_pieces (number_of_bits s w bits) ts s w us) same ∙ sym is);
     }
 
--- what attributes say can be read
-pub says_attributes : SaysAttributes says formats values
-says_attributes context (attrs.Integer a) n us ps e =
+identifier_attribute_said : (id : Identifier) → AttributeSaid 1 (one (alone (said_leaf (name (text_of id)))))
+identifier_attribute_said id context ps h =
+    let piece = one_seen says context (alone (said_leaf (name (text_of id)))) ps h in
+    let is : ps ≡ a_tree (node (leaf (name (text_of id))) piece.2.0) no_tree = piece.1 ∙ ap (λ (t : ValueTree). a_tree t no_tree) piece.2.1 in
+    record { kind = attr_form attr_kinds.Identifier; at = refl; shaped = ((refl, id.valid), tt); read = ap (refused_attribute 1) is; canonical = refl }
+
+type_attribute_said : (ty : TypeHandle) → AttributeSaid 2 (one (alone (said_type ty)))
+type_attribute_said ty context ps h =
+    let piece = one_seen says context (alone (said_type ty)) ps h in
+    let is : ps ≡ a_tree (node (value_of_kind sorts.«Type» piece.2.0) piece.2.1) no_tree = piece.1 ∙ ap (λ (t : ValueTree). a_tree t no_tree) piece.2.2 in
+    record { kind = attr_form attr_kinds.«Type»; at = refl; shaped = (refl, tt); read = ap (refused_attribute 2) is; canonical = refl }
+
+-- Where the first member of a list passes the test, the list is refused for the first of the others that doesn't.
+member_read : (context : List KitType) (x : LabelledTree (Said KitAttr)) (us : Trees (Said KitAttr)) (test : ValueTree → Bool) (i : ℕ) (ts : Pieces) → ((t : ValueTree) → SeenPiece says context x t → test t ≡ true) →
+    ShowsAll says context (a_tree (node said_item (one x)) us) ts → (rest : Pieces) × ShowsAll says context us rest × (first_refused test i ts ≡ first_refused test (suc i) rest)
+member_read context x us test i ts k h =
+    let first = first_seen says context (node said_item (one x)) us ts h in
+    let member = one_seen says context x first.3.0 first.3.2 in
+    let is : ts ≡ a_tree (node item (a_tree member.0 no_tree)) first.1 =
+    first.2 ∙ (ap (λ (t : ValueTree). a_tree t first.1) first.3.1 ∙ ap (λ (vs : Pieces). a_tree (node item vs) first.1) member.1) in
+    (first.1, first.4, ap (first_refused test i) is ∙ ap (λ (b : Bool). cond b (first_refused test (suc i) first.1) (Some i)) (k member.0 member.2))
+
+-- numbers of at most 32 bits in a list have its shape, and can be read
+sizes_shaped : (ns : List ℕ) → are_sizes ns ≡ true → AreMembersSaidAt ((a_leaf leaves.Digits) ∷ []) (members_said size_said ns)
+sizes_shaped [] e = tt
+sizes_shaped (n ∷ ns) e =
+    let both = and_parts (nat_lt n (2 ^ 32)) (are_sizes ns) e in
+    let small = ltb-true n (2 ^ 32) both.0 in
+    (((refl, omega arith), tt), sizes_shaped ns both.1)
+
+sizes_read : (context : List KitType) (ns : List ℕ) (i : ℕ) (ts : Pieces) → are_sizes ns ≡ true → ShowsAll says context (members_said size_said ns) ts → first_refused is_size i ts ≡ None
+sizes_read context [] i ts e h = ap (first_refused is_size i) (none_seen says context ts h)
+sizes_read context (n ∷ ns) i ts e h =
+    let both = and_parts (nat_lt n (2 ^ 32)) (are_sizes ns) e in
+    let more = member_read context (size_said n) (members_said size_said ns) is_size i ts (λ t s. ap is_size s.1 ∙ both.0) h in
+    more.2 ∙ sizes_read context ns (suc i) more.0 both.1 more.1
+
+sizes_attribute_said : (ns : List ℕ) → are_sizes ns ≡ true → AttributeSaid 3 (one (node said_list (members_said size_said ns)))
+sizes_attribute_said ns e context ps h =
+    let piece = one_seen says context (node said_list (members_said size_said ns)) ps h in
+    let is : ps ≡ a_tree (node list piece.2.0) no_tree = piece.1 ∙ ap (λ (t : ValueTree). a_tree t no_tree) piece.2.1 in
+    record {
+      kind = attr_form attr_kinds.SegmentSizes;
+      at = refl;
+      shaped = (sizes_shaped ns e, tt);
+      read = ap (refused_attribute 3) is ∙ sizes_read context ns 0 piece.2.0 e piece.2.2;
+      canonical = refl;
+    }
+
+-- so have names in a list, some of which aren't given
+names_shaped : (ids : List (Option Identifier)) → AreMembersSaidAt (name_or_none ∷ []) (members_said given_name_said (map (option_map text_of) ids))
+names_shaped [] = tt
+names_shaped (Some id ∷ ids) = ((((refl, id.valid), tt), tt), names_shaped ids)
+names_shaped (None ∷ ids) = ((tt, tt), names_shaped ids)
+
+given_name_read : (context : List KitType) (o : Option (List ℕ)) (t : ValueTree) → SeenPiece says context (given_name_said o) t → is_name_or_none t ≡ true
+given_name_read context (Some cs) t s =
+    let inner = one_seen says context (alone (said_leaf (name cs))) s.0 s.2 in
+    let is : s.0 ≡ a_tree (node (leaf (name cs)) inner.2.0) no_tree = inner.1 ∙ ap (λ (u : ValueTree). a_tree u no_tree) inner.2.1 in
+    ap is_name_or_none s.1 ∙ ap (is_one is_name) is
+given_name_read context None t s = ap is_name_or_none s.1 ∙ ap are_none (none_seen says context s.0 s.2)
+
+names_read : (context : List KitType) (os : List (Option (List ℕ))) (i : ℕ) (ts : Pieces) → ShowsAll says context (members_said given_name_said os) ts → first_refused is_name_or_none i ts ≡ None
+names_read context [] i ts h = ap (first_refused is_name_or_none i) (none_seen says context ts h)
+names_read context (o ∷ os) i ts h =
+    let more = member_read context (given_name_said o) (members_said given_name_said os) is_name_or_none i ts (given_name_read context o) h in
+    more.2 ∙ names_read context os (suc i) more.0 more.1
+
+names_attribute_said : (ids : List (Option Identifier)) → AttributeSaid 4 (one (node said_list (members_said given_name_said (map (option_map text_of) ids))))
+names_attribute_said ids context ps h =
+    let texts = map (option_map text_of) ids in
+    let piece = one_seen says context (node said_list (members_said given_name_said texts)) ps h in
+    let is : ps ≡ a_tree (node list piece.2.0) no_tree = piece.1 ∙ ap (λ (t : ValueTree). a_tree t no_tree) piece.2.1 in
+    record {
+      kind = attr_form attr_kinds.GivenNames;
+      at = refl;
+      shaped = (names_shaped ids, tt);
+      read = ap (refused_attribute 4) is ∙ names_read context texts 0 piece.2.0 piece.2.2;
+      canonical = refl;
+    }
+
+-- and texts in quotes
+text_read : (context : List KitType) (bytes : List ℕ) (ps : Pieces) → ShowsAll says context (text_said bytes) ps → is_one is_text ps ≡ true
+text_read context bytes ps h =
+    let piece = one_seen says context (alone (said_leaf (quoted (chars bytes)))) ps h in
+    ap (is_one is_text) piece.1 ∙ ap is_text piece.2.1
+
+note_said : (text : String Global) → AttributeSaid 5 (text_said (string_bytes text))
+note_said text context ps h =
+    record {
+      kind = attr_form attr_kinds.Note;
+      at = refl;
+      shaped = ((refl, scalars-chars (string_bytes text) (IsUtf8-string_bytes text)), tt);
+      read = ap (λ (b : Bool). refused_unless b 0) (text_read context (string_bytes text) ps h);
+      canonical = refl;
+    }
+
+origin_said : (text : String Global) → AttributeSaid 6 (text_said (string_bytes text))
+origin_said text context ps h =
+    record {
+      kind = attr_form attr_kinds.Origin;
+      at = refl;
+      shaped = ((refl, scalars-chars (string_bytes text) (IsUtf8-string_bytes text)), tt);
+      read = ap (λ (b : Bool). refused_unless b 0) (text_read context (string_bytes text) ps h);
+      canonical = refl;
+    }
+
+-- what attributes say, given of each what it says and of which kind
+pub attribute_by : (P : KitAttr → ℕ → Trees (Said KitAttr) → Type 0) →
+    ((a : IntegerAttr) → has_values a.integer.width ≡ true → nat_lt a.bits (2 ^ a.integer.width) ≡ true → P (attrs.Integer a) 0 (integer_said a.integer.signedness a.integer.width (printed_number a))) →
+    ((id : Identifier) → P (attrs.Identifier id) 1 (one (alone (said_leaf (name (text_of id)))))) →
+    ((ty : TypeHandle) → P (attrs.«Type» ty) 2 (one (alone (said_type ty)))) →
+    ((sizes : Vec ℕ Global) → are_sizes sizes.items ≡ true → P (attrs.SegmentSizes sizes) 3 (one (node said_list (members_said size_said sizes.items)))) →
+    ((names : Vec (Option Identifier) Global) → P (attrs.GivenNames names) 4 (one (node said_list (members_said given_name_said (map (option_map text_of) names.items))))) →
+    ((text : String Global) → P (attrs.Note text) 5 (text_said (string_bytes text))) →
+    ((text : String Global) → P (attrs.Origin text) 6 (text_said (string_bytes text))) →
+    (attr : KitAttr) (n : ℕ) (us : Trees (Said KitAttr)) → said_of_attribute attr ≡ Some (n, us) → P attr n us
+attribute_by P integer identifier ty sizes names note origin (attrs.Integer a) n us e =
     let said = said_if (has_values a.integer.width && nat_lt a.bits (2 ^ a.integer.width)) (Some (0, integer_said a.integer.signedness a.integer.width (printed_number a))) n us e in
     let tests = and_parts (has_values a.integer.width) (nat_lt a.bits (2 ^ a.integer.width)) said.0 in
-    of_said 0 n (integer_said a.integer.signedness a.integer.width (printed_number a)) us AttributeSaid said.1 (integer_attribute_said a tests.0 tests.1) context ps
-says_attributes context other n us ps e = absurd (none-some (n, us) e)
+    of_said 0 n (integer_said a.integer.signedness a.integer.width (printed_number a)) us (P (attrs.Integer a)) said.1 (integer a tests.0 tests.1)
+attribute_by P integer identifier ty sizes names note origin (attrs.Identifier id) n us e = of_said 1 n (one (alone (said_leaf (name (text_of id))))) us (P (attrs.Identifier id)) e (identifier id)
+attribute_by P integer identifier ty sizes names note origin (attrs.«Type» t) n us e = of_said 2 n (one (alone (said_type t))) us (P (attrs.«Type» t)) e (ty t)
+attribute_by P integer identifier ty sizes names note origin (attrs.SegmentSizes v) n us e =
+    let said = said_if (are_sizes v.items) (Some (3, one (node said_list (members_said size_said v.items)))) n us e in
+    of_said 3 n (one (node said_list (members_said size_said v.items))) us (P (attrs.SegmentSizes v)) said.1 (sizes v said.0)
+attribute_by P integer identifier ty sizes names note origin (attrs.GivenNames v) n us e =
+    of_said 4 n (one (node said_list (members_said given_name_said (map (option_map text_of) v.items)))) us (P (attrs.GivenNames v)) e (names v)
+attribute_by P integer identifier ty sizes names note origin (attrs.Note text) n us e = of_said 5 n (text_said (string_bytes text)) us (P (attrs.Note text)) e (note text)
+attribute_by P integer identifier ty sizes names note origin (attrs.Origin text) n us e = of_said 6 n (text_said (string_bytes text)) us (P (attrs.Origin text)) e (origin text)
+
+-- what attributes say can be read
+pub says_attributes : SaysAttributes says formats values
+says_attributes context attr n us ps e =
+    attribute_by (λ a m vs. AttributeSaid m vs) integer_attribute_said identifier_attribute_said type_attribute_said (λ sizes. sizes_attribute_said sizes.items)
+    (λ names. names_attribute_said names.items) note_said origin_said attr n us e context ps
 
 -- ---- operations
 
@@ -209,10 +340,20 @@ function_said id ty context ps h =
     ∙ ap (λ (t : ValueTree). a_tree (node (leaf (name (text_of id))) pieces.4.0) (a_tree (node (value_of_kind sorts.«Type» pieces.5.0) pieces.5.1) (a_tree t no_tree))) pieces.6.1)) in
     record { shaped = ((refl, id.valid), (refl, (refl, tt))); read = ap (refused_in TypedRegion) is; operands = ap operands_said is }
 
+-- integers are of the kind with the number 0
+integer_number : (a : IntegerAttr) (n : ℕ) (us : Trees (Said KitAttr)) → said_of_attribute (attrs.Integer a) ≡ Some (n, us) → 0 ≡ n
+integer_number a n us e =
+    let said = said_if (has_values a.integer.width && nat_lt a.bits (2 ^ a.integer.width)) (Some (0, integer_said a.integer.signedness a.integer.width (printed_number a))) n us e in
+    (some_pair_parts 0 n (integer_said a.integer.signedness a.integer.width (printed_number a)) us said.1).0
+
 constant_said : (a : IntegerAttr) → FormSaid Value 0 (one (alone (said_attribute (attrs.Integer a))))
 constant_said a context ps h =
     let piece = one_seen says context (alone (said_attribute (attrs.Integer a))) ps h in
-    let is : ps ≡ a_tree (node (value_of_kind sorts.Attribute piece.2.0) piece.2.1) no_tree = piece.1 ∙ ap (λ (t : ValueTree). a_tree t no_tree) piece.2.2 in
+    let whole = piece.2.3 in
+    let same : whole.0 ≡ attrs.Integer a = let f = whole.2 in cc in
+    let number_is : 0 ≡ piece.2.0 = integer_number a piece.2.0 whole.1 (sym (ap said_of_attribute same) ∙ whole.3) in
+    let is : ps ≡ a_tree (node (value_of_kind sorts.Attribute 0) piece.2.1) no_tree =
+    piece.1 ∙ (ap (λ (t : ValueTree). a_tree t no_tree) piece.2.2 ∙ ap (λ (n : ℕ). a_tree (node (value_of_kind sorts.Attribute n) piece.2.1) no_tree) (sym number_is)) in
     record { shaped = (refl, tt); read = ap (refused_in Value) is; operands = ap operands_said is }
 
 operands_read : (count : ℕ) → FormSaid AnyOperands count (one (alone (said_operands count)))
@@ -461,7 +602,4 @@ says_type_kinds types.Unit n us e = of_said 2 n no_tree us (λ m vs. slice_get r
 
 -- and an attribute
 pub says_attr_kinds : (attr : KitAttr) (n : ℕ) (us : Trees (Said KitAttr)) → said_of_attribute attr ≡ Some (n, us) → slice_get read_attrs n ≡ Some (attr_kind attr)
-says_attr_kinds (attrs.Integer a) n us e =
-    let said = said_if (has_values a.integer.width && nat_lt a.bits (2 ^ a.integer.width)) (Some (0, integer_said a.integer.signedness a.integer.width (printed_number a))) n us e in
-    of_said 0 n (integer_said a.integer.signedness a.integer.width (printed_number a)) us (λ m vs. slice_get read_attrs m ≡ Some attr_kinds.Integer) said.1 refl
-says_attr_kinds other n us e = absurd (none-some (n, us) e)
+says_attr_kinds = attribute_by (λ a m vs. slice_get read_attrs m ≡ Some (attr_kind a)) (λ a wide fits. refl) (λ id. refl) (λ ty. refl) (λ sizes e. refl) (λ names. refl) (λ text. refl) (λ text. refl)

@@ -1,13 +1,13 @@
 -- What the types, attributes and operations of `kit` say, and which pieces are refused.
-use Rattle.std.specs.Prelude.{ℕ, zero, suc, ◌+◌, ◌*◌, ◌^◌, ◌==◌, ◌&&◌, nat_le, nat_lt, Bool, true, false, List, [], ◌∷◌, length, Option, Some, None, option_map, option_and_then, cond, slice_get}
+use Rattle.std.specs.Prelude.{ℕ, zero, suc, ◌+◌, ◌*◌, ◌^◌, ◌==◌, ◌&&◌, nat_le, nat_lt, Bool, true, false, List, [], ◌∷◌, length, Option, Some, None, option_map, option_and_then, map, cond, slice_get, chars, string_bytes}
 use Rattle.ir_base.specs.declared.types.TypeHandle.{TypeHandle}
 use Rattle.ir_names.specs.declared.kinds.Signedness.{Signedness}
 use Rattle.ir_names.specs.Dictionary.{attribute_at}
 use Rattle.ir_names.specs.Identifier.{text_of}
 use Rattle.ir_names.specs.Tree.{LabelledTree, Trees, node, no_tree, a_tree, label_of, below}
 use Rattle.ir_print.specs.declared.format.Number.{Number}
-use Rattle.ir_print.specs.Pieces.{Piece, value_of_kind, list, item, operands, successor, region, leaf, name, number, width, ValueTree, Pieces, Values}
-use Rattle.ir_print.specs.Shown.{Said, said_type, said_attribute, said_list, said_item, said_operands, said_successor, said_region, said_leaf, alone, Saying}
+use Rattle.ir_print.specs.Pieces.{Piece, value_of_kind, list, item, chosen, operands, successor, region, leaf, name, number, unsigned, width, quoted, ValueTree, Pieces, Values}
+use Rattle.ir_print.specs.Shown.{Said, said_type, said_attribute, said_list, said_item, said_choice, said_operands, said_successor, said_region, said_leaf, alone, Saying}
 use Rattle.kit_ops.specs.declared.kinds.KitOp.{KitOp}
 use Rattle.kit_ops.specs.Keys.{symbol_name, function_type, constant_value, callee, callee_type, segment_sizes}
 use Rattle.kit.specs.Forms.{OpForm, NamedRegion, TypedRegion, Value, TwoOperands, OneOperand, AnyOperands, Empty, Called, Edge, ConditionEdges, form_of, number_of, read_ops}
@@ -52,10 +52,39 @@ has_values w = nat_le 1 w && nat_le w 64
 abbrev pub integer_said : Signedness → ℕ → Number → Trees (Said KitAttr)
 integer_said s w n = two (alone (said_leaf (number n.is_negative n.magnitude))) (alone (said_leaf (width s w)))
 
--- an integer with bits of its type says the number that is printed for them, and its width
+-- what is in a list, a member each
+abbrev pub members_said : {X : Type 0} → (X → LabelledTree (Said KitAttr)) → List X → Trees (Said KitAttr)
+members_said say [] = no_tree
+members_said say (x ∷ xs) = a_tree (node said_item (one (say x))) (members_said say xs)
+
+-- a number without a sign
+abbrev pub size_said : ℕ → LabelledTree (Said KitAttr)
+size_said n = alone (said_leaf (unsigned n))
+
+-- a name, or that there is none
+abbrev pub given_name_said : Option (List ℕ) → LabelledTree (Said KitAttr)
+given_name_said (Some cs) = node (said_choice 0) (one (alone (said_leaf (name cs))))
+given_name_said None = node (said_choice 1) no_tree
+
+-- a text in quotes, of these bytes
+abbrev pub text_said : List ℕ → Trees (Said KitAttr)
+text_said bytes = one (alone (said_leaf (quoted (chars bytes))))
+
+-- each number has at most 32 bits
+abbrev pub are_sizes : List ℕ → Bool
+are_sizes [] = true
+are_sizes (n ∷ ns) = nat_lt n (2 ^ 32) && are_sizes ns
+
+-- An integer with bits of its type says the number that is printed for them, and its width. Sizes say anything where all have at
+-- most 32 bits.
 abbrev pub said_of_attribute : KitAttr → Option (ℕ × Trees (Said KitAttr))
 said_of_attribute (attrs.Integer a) = only (has_values a.integer.width && nat_lt a.bits (2 ^ a.integer.width)) (Some (0, integer_said a.integer.signedness a.integer.width (printed_number a)))
-said_of_attribute _ = None
+said_of_attribute (attrs.Identifier id) = Some (1, one (alone (said_leaf (name (text_of id)))))
+said_of_attribute (attrs.«Type» ty) = Some (2, one (alone (said_type ty)))
+said_of_attribute (attrs.SegmentSizes sizes) = only (are_sizes sizes.items) (Some (3, one (node said_list (members_said size_said sizes.items))))
+said_of_attribute (attrs.GivenNames names) = Some (4, one (node said_list (members_said given_name_said (map (option_map text_of) names.items))))
+said_of_attribute (attrs.Note text) = Some (5, text_said (string_bytes text))
+said_of_attribute (attrs.Origin text) = Some (6, text_said (string_bytes text))
 
 -- what a module says that has a name
 abbrev pub said_of_module : Option KitAttr → Option (Trees (Said KitAttr))
@@ -155,10 +184,20 @@ abbrev pub is_type : ValueTree → Bool
 is_type (node (value_of_kind sorts.«Type» n) _) = true
 is_type _ = false
 
--- the piece is an attribute
-abbrev pub is_attribute : ValueTree → Bool
-is_attribute (node (value_of_kind sorts.Attribute n) _) = true
-is_attribute _ = false
+-- the piece is an integer
+abbrev pub is_integer : ValueTree → Bool
+is_integer (node (value_of_kind sorts.Attribute zero) _) = true
+is_integer _ = false
+
+-- the piece is a number of at most 32 bits
+abbrev pub is_size : ValueTree → Bool
+is_size (node (leaf (unsigned n)) _) = nat_lt n (2 ^ 32)
+is_size _ = false
+
+-- the piece is a text in quotes
+abbrev pub is_text : ValueTree → Bool
+is_text (node (leaf (quoted cs)) _) = true
+is_text _ = false
 
 -- the piece is a name
 abbrev pub is_name : ValueTree → Bool
@@ -241,9 +280,36 @@ is_number_of w _ = false
 abbrev pub refused_integer : Piece → Piece → Option ℕ
 refused_integer p q = cond (has_values (bits_of q)) (refused_unless (is_number_of (bits_of q) p) 0) (Some 1)
 
--- Integers alone are read, of a number and a width.
+-- the piece is a name, or says that there is none
+abbrev pub is_name_or_none : ValueTree → Bool
+is_name_or_none (node (chosen zero) ts) = is_one is_name ts
+is_name_or_none (node (chosen (suc zero)) ts) = are_none ts
+is_name_or_none _ = false
+
+-- the piece is a member of a list, and one piece of which this holds
+abbrev pub is_member : (ValueTree → Bool) → ValueTree → Bool
+is_member test (node item ts) = is_one test ts
+is_member test _ = false
+
+-- the number of the first member for which the test fails, where the members have numbers from this one on
+abbrev pub first_refused : (ValueTree → Bool) → ℕ → Pieces → Option ℕ
+first_refused test i no_tree = None
+first_refused test i (a_tree t ts) = cond (is_member test t) (first_refused test (suc i) ts) (Some i)
+
+-- a list is refused for the first member for which the test fails
+abbrev pub refused_list : (ValueTree → Bool) → Pieces → Option ℕ
+refused_list test (a_tree (node list ts) no_tree) = first_refused test 0 ts
+refused_list test _ = Some 0
+
+-- An integer is read of a number and a width, and sizes of numbers of at most 32 bits.
 abbrev pub refused_attribute : ℕ → Pieces → Option ℕ
 refused_attribute zero (a_tree t (a_tree u no_tree)) = refused_integer (label_of t) (label_of u)
+refused_attribute (suc zero) ps = refused_unless (is_one is_name ps) 0
+refused_attribute (suc (suc zero)) ps = refused_unless (is_one is_type ps) 0
+refused_attribute (suc (suc (suc zero))) ps = refused_list is_size ps
+refused_attribute (suc (suc (suc (suc zero)))) ps = refused_list is_name_or_none ps
+refused_attribute (suc (suc (suc (suc (suc zero))))) ps = refused_unless (is_one is_text ps) 0
+refused_attribute (suc (suc (suc (suc (suc (suc zero)))))) ps = refused_unless (is_one is_text ps) 0
 refused_attribute _ ps = Some 0
 
 -- the number that is printed for a number of a type
@@ -251,7 +317,7 @@ abbrev pub canonical_number : Piece → Piece → Piece
 canonical_number (leaf (number negative magnitude)) (leaf (width s w)) = let n = number_of_bits s w (number_modulo w (record { is_negative = negative; magnitude = magnitude })) in leaf (number n.is_negative n.magnitude)
 canonical_number p q = p
 
--- An integer is printed as the number that its bits stand for, and its width.
+-- An integer is printed as the number that its bits stand for, and its width, and each other attribute as it is read.
 abbrev pub canonical : ℕ → Pieces → Pieces
 canonical zero (a_tree t (a_tree u no_tree)) = a_tree (node (canonical_number (label_of t) (label_of u)) (below t)) (a_tree u no_tree)
 canonical _ ps = ps
@@ -261,12 +327,12 @@ abbrev pub form_at : ℕ → Option OpForm
 form_at n = option_and_then form_of (slice_get read_ops n)
 
 -- An operation of a form is refused whose pieces are not those of it: a name and a region, a name, a type and a region, an
--- attribute, two operands and a type, one operand, operands, none, a name, operands and a type, an edge, one operand and two
--- edges. The attributes that are read are integers.
+-- integer, two operands and a type, one operand, operands, none, a name, operands and a type, an edge, one operand and two
+-- edges.
 abbrev pub refused_in : OpForm → Pieces → Option ℕ
 refused_in NamedRegion ps = refused_unless (are_two is_name is_region ps) 0
 refused_in TypedRegion ps = refused_unless (are_three is_name is_type is_region ps) 0
-refused_in Value ps = refused_unless (is_one is_attribute ps) 0
+refused_in Value ps = refused_unless (is_one is_integer ps) 0
 refused_in TwoOperands ps = refused_unless (are_three is_operand is_operand is_type ps) 0
 refused_in OneOperand ps = refused_unless (is_one is_operand ps) 0
 refused_in AnyOperands ps = refused_unless (is_one are_operands ps) 0
@@ -287,9 +353,10 @@ abbrev pub integer_types : Pieces → List ValueTree
 integer_types (a_tree _ (a_tree (node (leaf (width s w)) _) no_tree)) = node (value_of_kind sorts.«Type» 0) (a_tree (node (leaf (width s w)) no_tree) no_tree) ∷ []
 integer_types _ = []
 
--- the type of the pieces of a constant
+-- the type of the pieces of a constant: that of an integer, or the unit type for another attribute
 abbrev pub constant_types : Pieces → List ValueTree
 constant_types (a_tree (node (value_of_kind sorts.Attribute zero) ts) no_tree) = integer_types ts
+constant_types (a_tree (node (value_of_kind sorts.Attribute (suc n)) ts) no_tree) = node (value_of_kind sorts.«Type» 2) no_tree ∷ []
 constant_types _ = []
 
 -- the type that pieces of two operands and a type end with
@@ -313,8 +380,8 @@ abbrev pub call_types : Pieces → List ValueTree
 call_types (a_tree _ (a_tree _ (a_tree t no_tree))) = types_returned t
 call_types _ = []
 
--- A constant has a result, of the type of its value, and an operation with two operands one of the type that it says. What has
--- nothing behind its name has one of the unit type. A call has as many as the type of its function has, and of these types. No
+-- A constant has a result: of the type of its value where that is an integer, and else of the unit type. An operation with two
+-- operands has one of the type that it says, and what has nothing behind its name one of the unit type. A call has as many as the type of its function has, and of these types. No
 -- other operation has any.
 abbrev pub result_types_in : OpForm → Pieces → List ValueTree
 result_types_in Value ps = constant_types ps

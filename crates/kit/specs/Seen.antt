@@ -2,9 +2,9 @@
 use Rattle.std.specs.Prelude.{◌≡◌, ℕ, List, refl}
 use Rattle.std.proofs.Common.{sym, subst}
 use Rattle.ir_names.specs.Tree.{LabelledTree, Trees, node, no_tree, a_tree}
-use Rattle.ir_print.specs.Pieces.{value_of_kind, list, item, operands, successor, region, leaf, ValueTree, Pieces}
+use Rattle.ir_print.specs.Pieces.{value_of_kind, list, item, operands, successor, region, leaf, ValueTree, Pieces, chosen}
 use Rattle.ir_print.specs.declared.format.ValueSort.TheVariants as sorts
-use Rattle.ir_print.specs.Shown.{Said, said_type, said_attribute, said_list, said_item, said_operands, said_successor, said_region, said_leaf, Saying, Shows, ShowsAll, ShowsType, ShowsAttribute}
+use Rattle.ir_print.specs.Shown.{Said, said_type, said_attribute, said_list, said_item, said_operands, said_successor, said_region, said_leaf, Saying, Shows, ShowsAll, ShowsType, ShowsAttribute, said_choice}
 
 module _ {K A T : Type 0} (says : Saying K A T) (types : List T) where
   -- the piece of what is said
@@ -13,6 +13,7 @@ module _ {K A T : Type 0} (says : Saying K A T) (types : List T) where
   SeenPiece (node (said_attribute a) us) t = (n : ℕ) × (ts : Pieces) × (t ≡ node (value_of_kind sorts.Attribute n) ts) × ShowsAttribute says types a (node (value_of_kind sorts.Attribute n) ts)
   SeenPiece (node said_list us) t = (ts : Pieces) × (t ≡ node list ts) × ShowsAll says types us ts
   SeenPiece (node said_item us) t = (ts : Pieces) × (t ≡ node item ts) × ShowsAll says types us ts
+  SeenPiece (node (said_choice n) us) t = (ts : Pieces) × (t ≡ node (chosen n) ts) × ShowsAll says types us ts
   SeenPiece (node (said_operands n) us) t = (ts : Pieces) × (t ≡ node (operands n) ts)
   SeenPiece (node (said_successor n) us) t = (ts : Pieces) × (t ≡ node (successor n) ts)
   SeenPiece (node said_region us) t = (ts : Pieces) × (t ≡ node region ts)
@@ -24,6 +25,7 @@ module _ {K A T : Type 0} (says : Saying K A T) (types : List T) where
   seen x (node (value_of_kind sorts.Attribute n) ts) h = subst (λ y. SeenPiece y (node (value_of_kind sorts.Attribute n) ts)) (sym h.2) (n, ts, refl, (h.0, h.1, refl, h.3, h.4))
   seen x (node list ts) h = subst (λ y. SeenPiece y (node list ts)) (sym h.1) (ts, refl, h.2)
   seen x (node item ts) h = subst (λ y. SeenPiece y (node item ts)) (sym h.1) (ts, refl, h.2)
+  seen x (node (chosen n) ts) h = subst (λ y. SeenPiece y (node (chosen n) ts)) (sym h.1) (ts, refl, h.2)
   seen x (node (operands n) ts) h = subst (λ y. SeenPiece y (node (operands n) ts)) (sym h) (ts, refl)
   seen x (node (successor n) ts) h = subst (λ y. SeenPiece y (node (successor n) ts)) (sym h) (ts, refl)
   seen x (node region ts) h = subst (λ y. SeenPiece y (node region ts)) (sym h) (ts, refl)

@@ -72,6 +72,25 @@ const INTEGER: &[Directive] = &[
     Directive::Literal(">"),
 ];
 
+const NAME: &[Directive] = &[Directive::Name];
+
+const SIZES: &[Directive] = &[
+    Directive::Literal("["),
+    Directive::List(&[Directive::Digits], ", "),
+    Directive::Literal("]"),
+];
+
+/// A name, or `?` where there is none.
+const NAME_OR_NONE: &[Directive] = &[Directive::Choice(&[NAME, &[Directive::Literal("?")]])];
+
+const NAMES: &[Directive] = &[
+    Directive::Literal("["),
+    Directive::List(NAME_OR_NONE, ", "),
+    Directive::Literal("]"),
+];
+
+const TEXT: &[Directive] = &[Directive::Text];
+
 /// The kind of operations with this number, of those that can be read.
 pub(crate) fn operation_kind_at(number: usize) -> Option<KitOp>
     ensures { result ≡ slice_get read_ops number }
@@ -108,6 +127,12 @@ pub(crate) fn attribute_kind_at(number: usize) -> Option<KitAttrKind>
 {
     match number {
         0 => Some(KitAttrKind::Integer),
+        1 => Some(KitAttrKind::Identifier),
+        2 => Some(KitAttrKind::Type),
+        3 => Some(KitAttrKind::SegmentSizes),
+        4 => Some(KitAttrKind::GivenNames),
+        5 => Some(KitAttrKind::Note),
+        6 => Some(KitAttrKind::Origin),
         _ => None,
     }
 }
@@ -187,17 +212,17 @@ pub(crate) fn type_format(kind: KitTypeKind) -> &'static [Directive]
     }
 }
 
-/// What follows the name of an attribute; nothing where the kind can't be read.
+/// What follows the name of an attribute.
 pub(crate) fn attribute_format(kind: KitAttrKind) -> &'static [Directive]
     ensures { steps_of result.now ≡ (attr_form kind).format }
 {
     match kind {
         KitAttrKind::Integer => INTEGER,
-        KitAttrKind::Identifier
-        | KitAttrKind::Type
-        | KitAttrKind::SegmentSizes
-        | KitAttrKind::GivenNames
-        | KitAttrKind::Note
-        | KitAttrKind::Origin => &[],
+        KitAttrKind::Identifier => NAME,
+        KitAttrKind::Type => TYPE,
+        KitAttrKind::SegmentSizes => SIZES,
+        KitAttrKind::GivenNames => NAMES,
+        KitAttrKind::Note => TEXT,
+        KitAttrKind::Origin => TEXT,
     }
 }

@@ -1,5 +1,5 @@
 //! Operations, made of parts and as parts.
-ghost use Rattle.std.specs.Prelude.{◌≡◌, ℕ, true, List, [], ◌∷◌, length, Some, Err, IfOk, OnOk, IsSome, slice_get};
+ghost use Rattle.std.specs.Prelude.{◌≡◌, ℕ, true, option_and_then, List, [], ◌∷◌, length, Some, Err, IfOk, OnOk, IsSome, slice_get};
 ghost use Rattle.ir_base.specs.declared.types.TypeHandle.{TypeHandle};
 ghost use Rattle.ir_names.specs.Dictionary.{attribute_at, with_attribute};
 ghost use Rattle.ir_names.specs.Text.{is_identifier};
@@ -20,13 +20,14 @@ ghost use Rattle.kit_ops.specs.declared.kinds.KitOp.{KitOp};
 ghost use Rattle.kit_ops.specs.declared.types.KitType.{KitType};
 ghost use Rattle.kit_ops.specs.declared.types.KitType.TheVariants.{Integer as IntegerKey};
 ghost use Rattle.kit.specs.Forms.{NamedRegion, TypedRegion, Value, TwoOperands, OneOperand, AnyOperands, Empty, Called, Edge, ConditionEdges, read_ops};
-ghost use Rattle.kit.specs.Making.{MakesForm, RefusesForm, returned_by};
+ghost use Rattle.kit.specs.Making.{MakesForm, RefusesForm, results_of_constant, results_of_pair, returned_by, type_called};
 ghost use Rattle.kit.specs.Parts.{AreNameParts, AreModuleParts, AreFunctionParts, AreCallParts, condition_parts};
 ghost use Rattle.kit.specs.Says.{says, values};
 
 use crate::dialect::Kit;
 use crate::parts::{
-    call_in, constant_in, edge_in, edges_in, function_in, module_in, operands_in, pair_in,
+    call_in, called_in, constant_in, edge_in, edges_in, function_in, module_in, operands_in,
+    pair_in,
 };
 use ir_context::{Context, OperandCalls, OperationCalls, ResultCalls};
 use ir_names::{AttributeDict, Identifier, TypeHandle};
@@ -287,6 +288,54 @@ fn make_cond_br(alloc: Global, parts: &[Part<Kit>]) -> Result<OperationDraft<Kit
     let sizes = sizes_of(alloc, first, second)?;
     let attributes = one_entry(alloc, keys::SEGMENT_SIZES, KitAttr::SegmentSizes(sizes))?;
     Ok(draft(attributes, Vec::new(alloc)))
+}
+
+/// How many results a constant has: one, where it says an attribute, of whatever kind.
+fn results_of_constant(parts: &[Part<Kit>]) -> usize
+    ensures { result ≡ results_of_constant parts.now }
+{
+    match parts {
+        [Part::Attribute(_)] => 1,
+        _ => 0,
+    }
+}
+
+/// How many results an operation with two operands has: one, where it says a type behind them.
+fn results_of_pair(parts: &[Part<Kit>]) -> usize
+    ensures { result ≡ results_of_pair parts.now }
+{
+    match parts {
+        [_, _, _] => 1,
+        _ => 0,
+    }
+}
+
+/// How many results a call has: as many as the type of its function.
+fn results_of_call(ctx: &Context<Kit>, parts: &[Part<Kit>]) -> usize
+    ensures { result ≡ length (returned_by (option_and_then (key_at ctx.now.types) (type_called parts.now))) }
+{
+    let Some(ty) = called_in(parts) else {
+        return 0;
+    };
+    match ctx.type_key(ty) {
+        Some(KitType::Function(function)) => function.results.len(),
+        _ => 0,
+    }
+}
+
+/// How many results an operation of these parts has, whether or not it can be made of them.
+pub(crate) fn num_results(ctx: &Context<Kit>, kind: KitOp, parts: &[Part<Kit>]) -> usize
+    ensures { (n : ℕ) → (ps : Pieces) → slice_get read_ops n ≡ Some kind
+        → ShowsParts says ctx.now.types.keys parts.now ps → result ≡ length (values.result_types n ps) }
+{
+    match kind {
+        KitOp::Constant => results_of_constant(parts),
+        KitOp::Arithmetic(_) => results_of_pair(parts),
+        KitOp::Comparison(_) => results_of_pair(parts),
+        KitOp::ForwardRef => 1,
+        KitOp::Call => results_of_call(ctx, parts),
+        KitOp::Module | KitOp::Func | KitOp::Emit | KitOp::Return | KitOp::Br | KitOp::CondBr => 0,
+    }
 }
 
 /// What an operation of these parts is made with, or the first part that is refused. The type of a constant is interned, and

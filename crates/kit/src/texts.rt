@@ -22,7 +22,7 @@ use crate::formats::{
     attribute_format, attribute_kind_at, attribute_name, operation_format, operation_kind_at,
     operation_name, type_format, type_kind_at, type_name,
 };
-use crate::operations::{make_operation, operation_parts};
+use crate::operations::{make_operation, num_results, operation_parts};
 use crate::types::{make_type, type_parts};
 use ir_context::Context;
 use ir_print::{Directive, Part};
@@ -112,6 +112,10 @@ impl TextDialect for Kit {
         parts: &[Part<Kit>],
     ) -> Result<KitAttr, MakeFault> {
         make_attribute(alloc, ctx, kind, parts)
+    }
+
+    fn num_results(ctx: &Context<Kit>, kind: KitOp, parts: &[Part<Kit>]) -> usize {
+        num_results(ctx, kind, parts)
     }
 
     fn make_operation(

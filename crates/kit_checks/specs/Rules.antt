@@ -1,5 +1,5 @@
 -- The fourteen rules, each of one operation where it is: what it says of itself, of what is in it, and of what is around it.
--- A module is good where each operation in it, the root too, keeps each rule.
+-- A module is good where each operation in it, the root too, keeps each rule. Each names the function that tests it.
 use Rattle.std.specs.Prelude.{◌≡◌, ◌≢◌, ◌↔◌, ◌<◌, ◌+◌, ◌^◌, ◌⊎◌, ℕ, true, List, [], ◌∷◌, ◌++◌, map, length, Some, None, slice_get}
 use Rattle.ir_base.specs.declared.types.TypeHandle.{TypeHandle}
 use Rattle.ir_program.specs.declared.handles.Ptr.{Ptr}
@@ -189,76 +189,78 @@ module _ {O B : Type 0} (w : World O B) (s : Site O B) where
   abbrev pub InKind : KitOp → Around O B → Type 0
   InKind k a = HasAround a × (kind_of w a.owner ≡ k)
 
-  -- 1. The root is a module.
+  -- 1. The root is a module. Tested by `root_is_module`.
   abbrev pub RootIsModule : Type 0
   RootIsModule = s.around ≡ None → kind ≡ ops.Module
 
   -- 2. A module has one region with one block without arguments. It holds modules and functions, and their names are
-  -- distinct: each has a name that none before it has.
+  -- distinct: each has a name that none before it has. Tested by `first_module_fault` of `kit_verifier`.
   pub record ModuleHolds : Type 0 where
     pub body : kind ≡ ops.Module → HasModuleBody s.op
     pub kinds : (a : Around O B) → InKind ops.Module a → is_symbol kind ≡ true
     pub names : (a : Around O B) → InKind ops.Module a → HasFreshName w a s.op
 
   -- 3. A function has a function type whose inputs and results are integers, and at least one block; the entry's arguments
-  -- have its input types.
+  -- have its input types. Tested by `function_has_type`.
   abbrev pub FunctionHasType : Type 0
   FunctionHasType = kind ≡ ops.Func → HasFunctionBody w s.op
 
-  -- 4. The blocks of a function hold constants and `kit` operations, without regions.
+  -- 4. The blocks of a function hold constants and `kit` operations, without regions. Tested by `function_holds`.
   abbrev pub FunctionHolds : Type 0
   FunctionHolds = (a : Around O B) → InKind ops.Func a → (is_instruction kind ≡ true) × (region_list s.op.regions ≡ [])
 
   -- 5. Every value is an integer of width 1 to 64, of any signedness: the operation's results, and the arguments of the
-  -- blocks in it.
+  -- blocks in it. Tested by `values_are_integers`.
   pub record ValuesAreIntegers : Type 0 where
     pub results : Every (IsValueType w) (types_of s.op.head.results)
     pub arguments : Every (λ (b : Body O B). Every (IsValueType w) (types_of b.label.arguments)) (bodies_of s.op)
 
   -- 6. In a function the last operation of each block, and no other, is `br`, `cond_br` or `return`; and no block is empty.
+  -- Tested by `blocks_end`.
   pub record BlocksEnd : Type 0 where
     pub last : (a : Around O B) → InKind ops.Func a →
         (is_terminator kind ≡ true) ↔ (a.index + 1 ≡ length (operation_list a.body.operations))
     pub none_empty : kind ≡ ops.Func → Every (λ (b : Body O B). operation_list b.operations ≢ []) (bodies_of s.op)
 
   -- 7. An operand is an earlier value of its own block or, outside the entry block, a value of the entry block. The root
-  -- has no operand.
+  -- has no operand. Tested by `operands_are_visible`.
   pub record OperandsAreVisible : Type 0 where
     pub inside : (a : Around O B) → HasAround a → Every (Lists (visible a)) s.op.head.operands
     pub root : s.around ≡ None → s.op.head.operands ≡ []
 
   -- 8. Arithmetic has one type throughout: operands and results. The operands of a comparison have one type, and its results
-  -- are signless integers of width 1. So is the condition of `cond_br`, its first operand.
+  -- are signless integers of width 1. So is the condition of `cond_br`, its first operand. Tested by `types_agree`.
   abbrev pub TypesAgree : Type 0
   TypesAgree = HasKindTypes w s.op kind
 
   -- 9. A successor is a block of the operation's own region; the operands along an edge have its argument types, in number
-  -- and order. The root, which is in no region, has no successor.
+  -- and order. The root, which is in no region, has no successor. Tested by `edges_fit`.
   abbrev pub EdgesFit : Type 0
   EdgesFit = (edge : ℕ) (target : Ptr BasicBlock) → slice_get s.op.head.successors edge ≡ Some target →
       (a : Around O B) × HasAround a × EdgeLeadsTo w s.op a edge target
 
   -- 10. A call's name is that of a function of the nearest enclosing module, whose type is the call's type; operands and
-  -- results have it.
+  -- results have it. Tested by `first_call_fault` of `kit_verifier`.
   abbrev pub CallsFit : Type 0
   CallsFit = kind ≡ ops.Call → (a : Around O B) × HasAround a × CallsFunction w s.op a
 
-  -- 11. The operands of `return` have the result types of the function that it leaves.
+  -- 11. The operands of `return` have the result types of the function that it leaves. Tested by `returns_fit`.
   abbrev pub ReturnsFit : Type 0
   ReturnsFit = kind ≡ ops.Return → (a : Around O B) (f : FunctionType) → InKind ops.Func a → signature w a.owner ≡ Some f →
       HaveTypes w s.op.head.operands f.results.items
 
-  -- 12. A constant's value is an integer attribute of its result's type.
+  -- 12. A constant's value is an integer attribute of its result's type. Tested by `constants_fit`.
   abbrev pub ConstantsFit : Type 0
   ConstantsFit = kind ≡ ops.Constant → HasConstantValue w s.op
 
   -- 13. There is no `forward_ref`. Beside a kind's own attributes operations, and the blocks in them, have only given names,
-  -- notes and origins, each under its own key.
+  -- notes and origins, each under its own key. Tested by `attributes_are_known`.
   pub record AttributesAreKnown : Type 0 where
     pub no_forward_ref : kind ≢ ops.ForwardRef
     pub own : Every (MayHave kind) (w.attributes s.op.head.content)
     pub blocks : Every (λ (b : Body O B). Every IsCommon (w.block_attributes b.label.content)) (bodies_of s.op)
 
   -- 14. Each operation fits its format: numbers of results, operands, successors and regions, and its own attributes.
+  -- Tested by `fits_format`.
   abbrev pub FitsFormat : Type 0
   FitsFormat = FitsKind w s.op kind

@@ -191,9 +191,10 @@ module _ (keys : List KitType) where
       (a_tree (node (leaf (number m.is_negative m.magnitude)) k.3.0) (a_tree t no_tree))) no_tree)) k.4.1
       ∙ reread a.integer.width a.bits low (is_below_zero a.integer.signedness a.integer.width a.bits)))
 
-  attribute_bits : (attr : KitAttr) (n : ℕ) (us : SaidTrees) (ts : Pieces) → said_of_attribute attr ≡ Some (n, us)
-      → ShowsAll says keys us ts → bits_said (a_tree (node (value_of_kind sorts.Attribute n) ts) no_tree) ≡ number_in (Some attr)
-  attribute_bits (attrs.Integer a) n us ts e h =
+  attribute_bits : (a : IntegerAttr) (n : ℕ) (us : SaidTrees) (ts : Pieces) → said_of_attribute (attrs.Integer a) ≡ Some (n, us)
+      → ShowsAll says keys us ts
+      → bits_said (a_tree (node (value_of_kind sorts.Attribute n) ts) no_tree) ≡ number_in (Some (attrs.Integer a))
+  attribute_bits a n us ts e h =
       let said : SaidTrees = integer_said a.integer.signedness a.integer.width (printed_number a) in
       let kept = only_some {X = ℕ × SaidTrees} (has_values a.integer.width && nat_lt a.bits (2 ^ a.integer.width))
       (Some (0, said)) (n, us) e in
@@ -201,32 +202,25 @@ module _ (keys : List KitType) where
       let parts = some_pair_parts 0 n said us kept.1 in
       integer_bits a n ts (low_number a.bits (2 ^ a.integer.width) test)
       (subst (λ (z : SaidTrees). ShowsAll says keys z ts) (sym parts.1) h)
-  attribute_bits (attrs.Identifier a) n us ts e h = absurd (none-some {A = ℕ × SaidTrees} (n, us) e)
-  attribute_bits (attrs.«Type» a) n us ts e h = absurd (none-some {A = ℕ × SaidTrees} (n, us) e)
-  attribute_bits (attrs.SegmentSizes a) n us ts e h = absurd (none-some {A = ℕ × SaidTrees} (n, us) e)
-  attribute_bits (attrs.GivenNames a) n us ts e h = absurd (none-some {A = ℕ × SaidTrees} (n, us) e)
-  attribute_bits (attrs.Note a) n us ts e h = absurd (none-some {A = ℕ × SaidTrees} (n, us) e)
-  attribute_bits (attrs.Origin a) n us ts e h = absurd (none-some {A = ℕ × SaidTrees} (n, us) e)
 
   attr_same : (a b : KitAttr) → ◌≡◌ {A = LabelledTree (Said KitAttr)} (alone (said_attribute a)) (alone (said_attribute b))
       → a ≡ b
   attr_same a b e = cc
 
-  attribute_shown : (attr : KitAttr) (ps : Pieces) → ShowsAll says keys (one (alone (said_attribute attr))) ps
-      → bits_said ps ≡ number_in (Some attr)
-  attribute_shown attr ps h =
-      let k = one_seen says keys (alone (said_attribute attr)) ps h in
+  attribute_shown : (a : IntegerAttr) (ps : Pieces) → ShowsAll says keys (one (alone (said_attribute (attrs.Integer a)))) ps
+      → bits_said ps ≡ number_in (Some (attrs.Integer a))
+  attribute_shown a ps h =
+      let k = one_seen says keys (alone (said_attribute (attrs.Integer a))) ps h in
       let shown = k.2.3 in
-      let same : attr ≡ shown.0 = attr_same attr shown.0 shown.2 in
+      let same : attrs.Integer a ≡ shown.0 = attr_same (attrs.Integer a) shown.0 shown.2 in
       ap bits_said (k.1 ∙ ap (λ (t : ValueTree). a_tree t no_tree) k.2.2)
-      ∙ attribute_bits shown.0 k.2.0 shown.1 k.2.1 shown.3 shown.4
-      ∙ ap (λ (a : KitAttr). number_in (Some a)) (sym same)
+      ∙ attribute_bits a k.2.0 shown.1 k.2.1 (ap said_of_attribute same ∙ shown.3) shown.4
 
   constant_shown : (o : Option KitAttr) (tys : List TypeHandle) (said : SaidTrees) (ps : Pieces)
       → said_of_constant o tys ≡ Some said → ShowsAll says keys said ps → number_in o ≡ bits_said ps
   constant_shown o tys said ps e h =
       let is = constant_says o tys said e in
-      ap number_in is.has ∙ sym (attribute_shown (attrs.Integer is.value) ps
+      ap number_in is.has ∙ sym (attribute_shown is.value ps
       (subst (λ (z : SaidTrees). ShowsAll says keys z ps) (sym is.says_it) h))
 
   -- a constant has the bits that it says

@@ -6,7 +6,7 @@ use Rattle.std.proofs.lemmas.Option.{none-some, same_Some, some_pair_parts}
 use Rattle.ir_base.specs.declared.types.TypeHandle.{TypeHandle}
 use Rattle.ir_names.specs.declared.kinds.Signedness.{Signedness}
 use Rattle.ir_names.specs.Tree.{LabelledTree, Trees, node, no_tree, a_tree}
-use Rattle.ir_print.specs.Pieces.{value_of_kind, list, item, operands, successor, region, leaf, width}
+use Rattle.ir_print.specs.Pieces.{value_of_kind, list, item, operands, successor, region, leaf, width, chosen}
 use Rattle.ir_print.specs.Pieces.{ValueTree, Pieces}
 use Rattle.ir_print.specs.Shown.{Said, said_type, said_list, said_item, said_leaf, alone, Pairs, Shows, ShowsAll}
 use Rattle.ir_print.specs.Shown.{ShowsType}
@@ -211,6 +211,7 @@ module _ (keys others : List KitType) where
     type_same (node (value_of_kind sorts.Attribute n) ts) a c h k = let e = h.2 in absurd cc
     type_same (node list ts) a c h k = let e = h.1 in absurd cc
     type_same (node item ts) a c h k = let e = h.1 in absurd cc
+    type_same (node (chosen n) ts) a c h k = let e = h.1 in absurd cc
     type_same (node (operands n) ts) a c h k = absurd cc
     type_same (node (successor n) ts) a c h k = absurd cc
     type_same (node region ts) a c h k = absurd cc
@@ -261,6 +262,7 @@ module _ (keys others : List KitType) where
     list_same (node (value_of_kind sorts.«Type» n) ts) xs ys h k = let e = h.3 in absurd cc
     list_same (node (value_of_kind sorts.Attribute n) ts) xs ys h k = let e = h.2 in absurd cc
     list_same (node item ts) xs ys h k = let e = h.1 in absurd cc
+    list_same (node (chosen n) ts) xs ys h k = let e = h.1 in absurd cc
     list_same (node (operands n) ts) xs ys h k = absurd cc
     list_same (node (successor n) ts) xs ys h k = absurd cc
     list_same (node region ts) xs ys h k = absurd cc
@@ -286,6 +288,7 @@ module _ (keys others : List KitType) where
     item_same (node (value_of_kind sorts.«Type» n) ts) a c h k = let e = h.3 in absurd cc
     item_same (node (value_of_kind sorts.Attribute n) ts) a c h k = let e = h.2 in absurd cc
     item_same (node list ts) a c h k = let e = h.1 in absurd cc
+    item_same (node (chosen n) ts) a c h k = let e = h.1 in absurd cc
     item_same (node (operands n) ts) a c h k = absurd cc
     item_same (node (successor n) ts) a c h k = absurd cc
     item_same (node region ts) a c h k = absurd cc

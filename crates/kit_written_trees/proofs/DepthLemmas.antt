@@ -3,7 +3,7 @@ use Rattle.std.proofs.Common.{◌≡◌, ℕ, zero, suc, List, [], ◌∷◌, re
 use Rattle.ir_base.specs.declared.types.TypeHandle.{TypeHandle}
 use Rattle.ir_names.specs.Tree.{node, no_tree, a_tree}
 use Rattle.ir_print.specs.Layout.{Deeper, IsFlat, AreFlat}
-use Rattle.ir_print.specs.Pieces.{value_of_kind, list, item, operands, successor, region, leaf, width, ValueTree, Pieces}
+use Rattle.ir_print.specs.Pieces.{value_of_kind, list, item, operands, successor, region, leaf, width, ValueTree, Pieces, chosen}
 use Rattle.ir_print.specs.Shown.{Pairs, ShowsType}
 use Rattle.kit_ops.specs.declared.types.KitType.{KitType}
 use Rattle.kit_ops.specs.declared.kinds.KitOp.{KitOp}
@@ -32,8 +32,13 @@ integer_flat zero ts h = absurd h
 integer_flat (suc d) (a_tree t (a_tree (node (leaf (width s w)) us) no_tree)) h = ((tt, tt), tt)
 integer_flat (suc d) _ h = tt
 
+unit_flat : (d : ℕ) (ts : Pieces) → Deeper d (λ e. AreFlat e ts) → AllFlat d (node (value_of_kind sorts.«Type» 2) no_tree ∷ [])
+unit_flat zero ts h = absurd h
+unit_flat (suc d) ts h = (tt, tt)
+
 constant_flat : (d : ℕ) (ps : Pieces) → AreFlat d ps → AllFlat d (constant_types ps)
 constant_flat d (a_tree (node (value_of_kind sorts.Attribute zero) ts) no_tree) h = integer_flat d ts h.0
+constant_flat d (a_tree (node (value_of_kind sorts.Attribute (suc n)) ts) no_tree) h = unit_flat d ts h.0
 constant_flat d _ h = tt
 
 pair_flat : (d : ℕ) (ps : Pieces) → AreFlat d ps → AllFlat d (pair_types ps)
@@ -48,6 +53,7 @@ module _ (types : List KitType) where
   type_above d ty (node (value_of_kind sorts.Attribute n) ts) h f = absurd (cc h.2)
   type_above d ty (node list ts) h f = absurd (cc h.1)
   type_above d ty (node item ts) h f = absurd (cc h.1)
+  type_above d ty (node (chosen n) ts) h f = absurd (cc h.1)
   type_above d ty (node (operands n) ts) h f = absurd (cc h)
   type_above d ty (node (successor n) ts) h f = absurd (cc h)
   type_above d ty (node region ts) h f = absurd (cc h)

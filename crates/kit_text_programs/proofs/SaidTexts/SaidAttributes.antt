@@ -10,7 +10,7 @@ use Rattle.ir_base.specs.declared.types.TypeHandle.{TypeHandle}
 use Rattle.ir_names.specs.Dictionary.{attribute_at}
 use Rattle.ir_names.specs.Identifier.{text_of}
 use Rattle.ir_names.specs.Tree.{node, no_tree, a_tree}
-use Rattle.ir_print.specs.Pieces.{value_of_kind, list, item, operands, successor, region, leaf}
+use Rattle.ir_print.specs.Pieces.{value_of_kind, list, item, operands, successor, region, leaf, chosen}
 use Rattle.ir_print.specs.Pieces.{ValueTree, Pieces}
 use Rattle.ir_print.specs.Shown.{said_type, alone, Pairs, ShowsAll, ShowsType}
 use Rattle.ir_program.specs.Program.{TypedValue}
@@ -128,6 +128,7 @@ behind t (node (value_of_kind sorts.«Type» n) us) ps h = inr h
 behind t (node (value_of_kind sorts.Attribute n) us) ps h = h
 behind t (node list us) ps h = h
 behind t (node item us) ps h = h
+behind t (node (chosen n) us) ps h = h
 behind t (node (operands n) us) ps h = h
 behind t (node (successor n) us) ps h = h
 behind t (node region us) ps h = h

@@ -4,7 +4,7 @@ use Rattle.std.proofs.Common.{subst}
 use Rattle.ir_forest.specs.Bare.{IsBare, AreBare, AreBareArguments, IsBareTree, AreBareTrees}
 use Rattle.ir_forest.specs.Closed.{IsClosedTree, IsOperation, AreRegions, IsRegion, AreBlocks, IsBlock, AreOperations}
 use Rattle.ir_names.specs.Tree.{node, no_tree, a_tree}
-use Rattle.ir_print.specs.Pieces.{value_of_kind, list, item, operands, successor, region, leaf, name, number, width}
+use Rattle.ir_print.specs.Pieces.{value_of_kind, list, item, operands, successor, region, leaf, name, number, width, chosen, unsigned, quoted}
 use Rattle.ir_print.specs.Pieces.{ValueTree, Pieces, operation, a_region, block, Entity, entity, Entities, no_entity}
 use Rattle.ir_print.specs.Pieces.{an_entity}
 use Rattle.kit_language.specs.Language.{kit_language}
@@ -37,6 +37,7 @@ among_bare (a_tree (node (value_of_kind sorts.«Type» n) us) ts) b r (inr h) = 
 among_bare (a_tree (node (value_of_kind sorts.Attribute n) us) ts) b r h = among_bare ts b.1 r h
 among_bare (a_tree (node list us) ts) b r h = among_bare ts b.1 r h
 among_bare (a_tree (node item us) ts) b r h = among_bare ts b.1 r h
+among_bare (a_tree (node (chosen n) us) ts) b r h = among_bare ts b.1 r h
 among_bare (a_tree (node (operands n) us) ts) b r h = among_bare ts b.1 r h
 among_bare (a_tree (node (successor n) us) ts) b r h = among_bare ts b.1 r h
 among_bare (a_tree (node region us) ts) b r h = among_bare ts b.1 r h
@@ -52,20 +53,26 @@ integer_bare (a_tree t (a_tree (node (leaf (width s w)) us) (a_tree v ts))) r h 
 integer_bare (a_tree t (a_tree (node (value_of_kind sort n) us) ts)) r h = absurd h
 integer_bare (a_tree t (a_tree (node list us) ts)) r h = absurd h
 integer_bare (a_tree t (a_tree (node item us) ts)) r h = absurd h
+integer_bare (a_tree t (a_tree (node (chosen n) us) ts)) r h = absurd h
 integer_bare (a_tree t (a_tree (node (operands n) us) ts)) r h = absurd h
 integer_bare (a_tree t (a_tree (node (successor n) us) ts)) r h = absurd h
 integer_bare (a_tree t (a_tree (node region us) ts)) r h = absurd h
 integer_bare (a_tree t (a_tree (node (leaf (name cs)) us) ts)) r h = absurd h
 integer_bare (a_tree t (a_tree (node (leaf (number m n)) us) ts)) r h = absurd h
+integer_bare (a_tree t (a_tree (node (leaf (unsigned n)) us) ts)) r h = absurd h
+integer_bare (a_tree t (a_tree (node (leaf (quoted cs)) us) ts)) r h = absurd h
 
 constant_bare : (ts : Pieces) → AllBare (constant_types ts)
 constant_bare no_tree r h = absurd h
 constant_bare (a_tree (node (value_of_kind sorts.Attribute zero) us) no_tree) r h = integer_bare us r h
 constant_bare (a_tree (node (value_of_kind sorts.Attribute zero) us) (a_tree t ts)) r h = absurd h
-constant_bare (a_tree (node (value_of_kind sorts.Attribute (suc n)) us) ts) r h = absurd h
+constant_bare (a_tree (node (value_of_kind sorts.Attribute (suc n)) us) no_tree) r (inl e) = subst IsBare (sym e) tt
+constant_bare (a_tree (node (value_of_kind sorts.Attribute (suc n)) us) no_tree) r (inr h) = absurd h
+constant_bare (a_tree (node (value_of_kind sorts.Attribute (suc n)) us) (a_tree t ts)) r h = absurd h
 constant_bare (a_tree (node (value_of_kind sorts.«Type» n) us) ts) r h = absurd h
 constant_bare (a_tree (node list us) ts) r h = absurd h
 constant_bare (a_tree (node item us) ts) r h = absurd h
+constant_bare (a_tree (node (chosen n) us) ts) r h = absurd h
 constant_bare (a_tree (node (operands n) us) ts) r h = absurd h
 constant_bare (a_tree (node (successor n) us) ts) r h = absurd h
 constant_bare (a_tree (node region us) ts) r h = absurd h
@@ -88,6 +95,7 @@ members_bare (a_tree (node item (a_tree t no_tree)) ts) b r (inr h) = members_ba
 members_bare (a_tree (node item no_tree) ts) b r h = members_bare ts b.1 r h
 members_bare (a_tree (node item (a_tree t (a_tree u us))) ts) b r h = members_bare ts b.1 r h
 members_bare (a_tree (node list us) ts) b r h = members_bare ts b.1 r h
+members_bare (a_tree (node (chosen n) us) ts) b r h = members_bare ts b.1 r h
 members_bare (a_tree (node (value_of_kind sort n) us) ts) b r h = members_bare ts b.1 r h
 members_bare (a_tree (node (operands n) us) ts) b r h = members_bare ts b.1 r h
 members_bare (a_tree (node (successor n) us) ts) b r h = members_bare ts b.1 r h

@@ -5,9 +5,9 @@ use Rattle.std.proofs.lemmas.Option.{same_Some, some_pair_parts}
 use Rattle.ir_base.specs.declared.types.TypeHandle.{TypeHandle}
 use Rattle.ir_forest.specs.Bare.{IsBare, AreBare}
 use Rattle.ir_names.specs.Tree.{LabelledTree, Trees, node, no_tree, a_tree}
-use Rattle.ir_print.specs.Pieces.{Piece, value_of_kind, list, item, operands, successor, region, leaf}
+use Rattle.ir_print.specs.Pieces.{Piece, value_of_kind, list, item, operands, successor, region, leaf, chosen}
 use Rattle.ir_print.specs.Pieces.{ValueTree, Pieces}
-use Rattle.ir_print.specs.Shown.{Said, said_type, said_attribute, said_list, said_item, said_operands, said_successor, said_region, said_leaf}
+use Rattle.ir_print.specs.Shown.{Said, said_type, said_attribute, said_list, said_item, said_operands, said_successor, said_region, said_leaf, said_choice}
 use Rattle.ir_print.specs.Shown.{alone, Saying, Shows, ShowsAll}
 use Rattle.ir_print.specs.declared.format.ValueSort.TheVariants as sorts
 use Rattle.kit.specs.Seen.{seen}
@@ -76,6 +76,10 @@ module _ {K A T : Type 0} (says : Saying K A T) (types : List T) where
         let other = seen says types (node said_item us) q (shown_as x (node said_item us) q e k) in
         let inside = pieces_once ts other.0 us all other.2 b (bare_as q (node item other.0) other.1 c) in
         same_node item item ts other.0 refl inside ∙ sym other.1
+    one_text (node (chosen n) ts) q x (us, e, all) k b c =
+        let other = seen says types (node (said_choice n) us) q (shown_as x (node (said_choice n) us) q e k) in
+        let inside = pieces_once ts other.0 us all other.2 b (bare_as q (node (chosen n) other.0) other.1 c) in
+        same_node (chosen n) (chosen n) ts other.0 refl inside ∙ sym other.1
     one_text (node (operands n) ts) q x e k b c =
         let other = seen says types (alone (said_operands n)) q (shown_as x (alone (said_operands n)) q e k) in
         bare_node (operands n) ts other.0 q b other.1 (bare_as q (node (operands n) other.0) other.1 c)

@@ -5,7 +5,7 @@ use Rattle.ir_names.specs.declared.kinds.Signedness.TheVariants.{Signless, Signe
 use Rattle.ir_names.specs.Tree.{node, no_tree, a_tree}
 use Rattle.ir_print.specs.declared.format.ValueSort.{ValueSort}
 use Rattle.ir_print.specs.declared.format.ValueSort.TheVariants as sorts
-use Rattle.ir_print.specs.Pieces.{Leaf, name, number, width, Piece, value_of_kind, list, item, operands, successor, region, leaf}
+use Rattle.ir_print.specs.Pieces.{Leaf, name, number, width, Piece, value_of_kind, list, item, operands, successor, region, leaf, chosen, unsigned, quoted}
 use Rattle.ir_print.specs.Pieces.{ValueTree, Pieces}
 
 -- two of these are the same or not
@@ -67,8 +67,12 @@ leaf_test (name ms) (name ns) = by_part name ms ns (λ e. cc) (numbers_test ms n
 leaf_test (name ms) _ = inr (λ e. cc)
 leaf_test (number b m) (number c n) = by_parts number b c m n (λ e. cc) (λ e. cc) (flag_test b c) (number_test m n)
 leaf_test (number b m) _ = inr (λ e. cc)
+leaf_test (unsigned m) (unsigned n) = by_part unsigned m n (λ e. cc) (number_test m n)
+leaf_test (unsigned m) _ = inr (λ e. cc)
 leaf_test (width s m) (width t n) = by_parts width s t m n (λ e. cc) (λ e. cc) (sign_test s t) (number_test m n)
 leaf_test (width s m) _ = inr (λ e. cc)
+leaf_test (quoted ms) (quoted ns) = by_part quoted ms ns (λ e. cc) (numbers_test ms ns)
+leaf_test (quoted ms) _ = inr (λ e. cc)
 
 -- pieces
 piece_test : (p q : Piece) → Tested p q
@@ -79,6 +83,8 @@ piece_test list list = inl refl
 piece_test list _ = inr (λ e. cc)
 piece_test item item = inl refl
 piece_test item _ = inr (λ e. cc)
+piece_test (chosen m) (chosen n) = by_part chosen m n (λ e. cc) (number_test m n)
+piece_test (chosen m) _ = inr (λ e. cc)
 piece_test (operands m) (operands n) = by_part operands m n (λ e. cc) (number_test m n)
 piece_test (operands m) _ = inr (λ e. cc)
 piece_test (successor m) (successor n) = by_part successor m n (λ e. cc) (number_test m n)
