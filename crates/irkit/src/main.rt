@@ -3,8 +3,8 @@
 
 use irkit_driver::{Watched, drive};
 use std::alloc::{AllocError, Global};
-use std::env;
 use std::process::ExitCode;
+use std::{env, io};
 
 /// Blocks of up to 4 MB are kept for what comes next when they are given back. With more the largest tables of
 /// a long text would stay, too, and with them more memory than the passes need at once.
@@ -19,13 +19,27 @@ fn keep_memory(alloc: Global) {
     drop(block);
 }
 
+/// The words of the command line, of which the first is the program's name.
+fn words_of(rt: &HostRuntime) -> io::Result<Vec<String>> {
+    Ok(env::args(rt)?.collect(rt.alloc())?)
+}
+
+/// Tells why the words can't be had, where that can be told, and gives the status: 2 where one isn't UTF-8, and 1 where
+/// memory was refused.
+fn refuse_words(rt: &HostRuntime, kind: io::ErrorKind) -> ExitCode {
+    let (fault, status) = match kind {
+        io::ErrorKind::InvalidData => ("a word of the command line isn't UTF-8", 2),
+        _ => ("memory", 1),
+    };
+    let _ = eprintln!(rt; "error: {fault}");
+    ExitCode::from(status)
+}
+
 fn main(rt: HostRuntime) -> ExitCode {
     let alloc = rt.alloc();
-    let Ok(words) = env::args(&rt) else {
-        return ExitCode::from(2);
-    };
-    let Ok(words) = words.collect(alloc) else {
-        return ExitCode::from(2);
+    let words = match words_of(&rt) {
+        Ok(words) => words,
+        Err(error) => return refuse_words(&rt, error.kind()),
     };
     keep_memory(alloc);
     let mut input = Watched::new(rt.stdin());

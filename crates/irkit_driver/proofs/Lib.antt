@@ -1,6 +1,8 @@
 pub mod FaultLemmas
 pub mod CutLemmas
-pub mod MistakeLemmas
 pub mod ExecutionLemmas
 pub mod ModuleLemmas
 pub mod RunLemmas
+pub mod OutcomeLemmas
+pub mod TakingLemmas
+pub mod AgreementLemmas

@@ -51,7 +51,7 @@ module _ (law : TextsHaveOneProgram) (numbered : List ℕ → ℕ) where
 module _ (law : TextsHaveOneProgram) (passes : List KitPass) (bytes text : List ℕ) (p q : FunctionsByPath Place)
     (h : AreRun passes bytes text p q) where
   -- the programs of the module that was read, and of what the passes left of it
-  given : PassedPrograms (map pass_of passes) h.gives.before h.gives.gives.after h.gives.root h.numbered
+  abbrev pub given : PassedPrograms (map pass_of passes) h.gives.before h.gives.gives.after h.gives.root h.numbered
   given = h.gives.gives.programs h.numbered h.numbering
 
   first_same : given.first ≡ p
@@ -72,7 +72,7 @@ module _ (law : TextsHaveOneProgram) (passes : List KitPass) (bytes text : List 
       y.holds given.after y.holds.tree given.is_last.stands y.holds.is_tree given.last q given.is_last.is h.last.is
 
   -- what is so of those is so of these
-  moved : (P : FunctionsByPath Place → FunctionsByPath Place → Type 0) → P given.first given.last → P p q
+  pub moved : (P : FunctionsByPath Place → FunctionsByPath Place → Type 0) → P given.first given.last → P p q
   moved P x = subst (λ z. P z q) first_same (subst (P given.first) last_same x)
 
   pub run_alike : (c : ℕ) × AlikeWithin c p q

@@ -1,6 +1,8 @@
 pub use Rattle.irkit_streams.specs.Streams
 pub use Rattle.irkit_streams.specs.Ends
 pub use Rattle.irkit_words.specs.CommandLine
+pub use Rattle.irkit_words.specs.Lines
+pub use Rattle.irkit_words.specs.Parses
 pub use Rattle.irkit_words.specs.Requests
 pub use Rattle.irkit_refusals.specs.Texts
 pub use Rattle.irkit_refusals.specs.Refusals
@@ -12,4 +14,6 @@ pub use Rattle.irkit_running.specs.Outcomes
 pub mod Same
 pub mod Programs
 pub mod Facts
+pub mod Executions
+pub mod Told
 pub mod Works

@@ -1,34 +1,57 @@
 //! Faults are told where they can be.
+ghost use Rattle.std.specs.Prelude.{Err};
+ghost use Rattle.irkit_driver.specs.Told.{TellsEnd, TellsLine, TellsRun, Told};
+
+use irkit_refusals::{ExecutionFault, Refusal};
 use irkit_streams::{Watched, write_text};
-use std::fmt::{Display, Write};
-use std::{fmt, io};
+use irkit_words::{MEMORY_LINE, line_of};
+use std::alloc::Global;
+use std::fmt::Display;
+use std::io::Write;
 
-/// Passes texts on to a watched writer, and none once a call of it has failed. Nothing is tried again.
-#[derive(Drop)]
-struct Telling<'a, F> {
-    faults: &'a mut Watched<F>,
-}
-
-impl<F: io::Write> Write for Telling<'_, F> {
-    fn write_str(&mut self, text: &str) -> fmt::Result {
-        if self.faults.has_failed() {
-            return Err(fmt::Error);
-        }
-        match write_text(self.faults, text.as_bytes()) {
-            Ok(()) => Ok(()),
-            Err(_) => Err(fmt::Error),
-        }
+/// Tells a text where that can be: nothing is written once a call of the stream has failed, and no write is tried again.
+pub fn tell<F: Write>(faults: &mut Watched<F>, text: &[u8])
+    ensures { Told F.contents faults.old faults.new text.now }
+{
+    if faults.has_failed() {
+        return;
+    }
+    match write_text(faults, text) {
+        Ok(()) => {}
+        Err(_) => {}
     }
 }
 
-/// Writes this text on the faults, where it can be written.
-pub fn tell<F: io::Write, D: Display>(faults: &mut Watched<F>, text: &D) {
-    let mut telling = Telling { faults };
-    let _ = write!(telling, "{text}");
+/// Tells the line of a fault, or that of refused memory where there is none for it.
+pub fn tell_fault<F: Write, D: Display>(alloc: Global, faults: &mut Watched<F>, fault: &D)
+    ensures { TellsLine F.contents faults.old faults.new }
+{
+    match line_of(alloc, fault) {
+        Ok(line) => tell(faults, line.as_bytes()),
+        Err(_) => tell(faults, MEMORY_LINE.as_bytes()),
+    }
 }
 
-/// Writes a line of this fault on the faults, where it can be written.
-pub fn report_fault<F: io::Write, D: Display>(faults: &mut Watched<F>, fault: &D) {
-    let mut telling = Telling { faults };
-    let _ = writeln!(telling, "error: {fault}");
+/// Tells why a call was refused.
+pub fn tell_refusal<F: Write>(alloc: Global, faults: &mut Watched<F>, refusal: &Refusal)
+    ensures { TellsEnd F.contents faults.old faults.new {X = Unit {0}} (Err refusal.now) }
+{
+    match refusal {
+        Refusal::Memory => tell(faults, MEMORY_LINE.as_bytes()),
+        other => tell_fault(alloc, faults, other),
+    }
+}
+
+/// Tells why a function wasn't run, or what its run did wasn't written.
+pub fn tell_execution_fault<F: Write>(
+    alloc: Global,
+    faults: &mut Watched<F>,
+    fault: &ExecutionFault,
+)
+    ensures { TellsRun F.contents faults.old faults.new {X = Unit {0}} (Err fault.now) }
+{
+    match fault {
+        ExecutionFault::Refused(refusal) => tell_refusal(alloc, faults, refusal),
+        other => tell_fault(alloc, faults, other),
+    }
 }

@@ -1,5 +1,5 @@
 //! Laws of the definitions: an input has one reading and one program; a list of passes keeps behaviour, meets the goal of
-//! its last pass, and may be cut where one likes.
+//! its last pass, and may be cut where one likes; runs of functions agree, and so do those of what passes leave.
 ghost use Rattle.std.specs.Prelude.{◌≡◌, ℕ, suc, ◌+◌, List, [], ◌∷◌, ◌++◌, map};
 ghost use Rattle.ir_print.specs.Pieces.{Entity};
 ghost use Rattle.ir_program.specs.declared.handles.Operation.{Operation};
@@ -15,6 +15,8 @@ ghost use Rattle.kit_ruled_views.specs.Operations.{operations_below};
 ghost use Rattle.kit_optimiser.specs.Functions.{function_content};
 ghost use Rattle.kit_optimiser.specs.Passed.{pass_of};
 ghost use Rattle.kit_ops.specs.declared.pass.KitPass.{KitPass};
+ghost use Rattle.irkit_driver.specs.Executions.{LongerShowsMore, OneOutcome, OnePassExecutesAlike, OneRefusal};
+ghost use Rattle.irkit_driver.specs.Executions.{SameAnywhere, WrittenExecuteAlike, WrittenRefuseAlike};
 ghost use Rattle.irkit_driver.specs.Facts.{FactsExist, PassedFactsStay, TreeFactsStay};
 ghost use Rattle.irkit_running.specs.Outcomes.{RunGives};
 ghost use Rattle.irkit_driver.specs.Programs.{ArePassed, AreRun, IsMadeBy, IsModule};
@@ -23,6 +25,7 @@ ghost use Rattle.irkit_driver.specs.Same.{HaveOneModule};
 ghost use Rattle.irkit_refusals.specs.Texts.{BreaksRule, HasFirstTextFault, IsAccepted, IsAcceptedAs, SaysTree};
 
 use kit::Kit;
+use kit_execution::{know_numbering, paths_meet, runs_are_program_runs};
 use kit_language::kit_can_print;
 use kit_text_programs::{
     passes_keep_same, texts_have_one_program, texts_have_one_verdict, texts_say_the_same,
@@ -129,4 +132,32 @@ pub fn written_texts_behave_alike()
         → AreRun passes bytes text p q → Goal (map pass_of passes) p q }
 {
     texts_have_one_program();
+}
+
+/// Runs of a function of one input, on the same path, numbers and limit, agree: there is one outcome, or each is refused for
+/// one fault, whatever context the input is read into. With a larger limit an outcome shows no less, and one that is over
+/// stays.
+pub fn executions_agree()
+    ensures refused { OneRefusal }
+    ensures one { OneOutcome }
+    ensures anywhere { SameAnywhere }
+    ensures longer { LongerShowsMore }
+{
+    texts_have_one_program();
+    know_numbering();
+    paths_meet();
+    runs_are_program_runs();
+}
+
+/// Runs of a function of the text that `run` writes are alike those of its input: refused for the same fault, and within some
+/// factor of steps they show what those show, and end or trap as those do; and the other way round.
+pub fn written_texts_execute_alike()
+    ensures refused { WrittenRefuseAlike }
+    ensures alike { WrittenExecuteAlike }
+    ensures bound { OnePassExecutesAlike }
+{
+    texts_have_one_program();
+    know_numbering();
+    paths_meet();
+    runs_are_program_runs();
 }

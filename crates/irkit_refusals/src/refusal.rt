@@ -31,7 +31,7 @@ pub enum Refusal {
     /// A counter stood at its greatest value.
     #[error("counter full")]
     CounterFull,
-    /// A read failed, or the end wasn't met after 2^40 bytes or more.
+    /// A read failed, or the end wasn't met in 2^40 reads.
     #[error("read")]
     Read,
     /// So many bytes were written when a write failed or took none.

@@ -30,7 +30,7 @@ written law s root own text rules laid read = record {
   laid_out = laid;
   again = read.again;
   accepted = record {
-    says_it = (read.utf8, subst (λ cs. Says kit_language cs read.again) (sym read.characters) read.says);
+    says_it = (read.utf8, read.says);
     rules = λ z there held. rules_carry law own.tree read.again (sym read.same) s z root there own.holds held rules;
   };
   same = read.same;

@@ -27,14 +27,19 @@ pub record IsWrittenAs (s : KitContext) (root : Ptr Operation) (text : List ℕ)
   pub accepted : IsAcceptedText text again
   pub same : IsSameModule again tree
 
+-- Both modules have programs, whatever numbers names have. The functions of the second are those of the first, behave as they do, and
+-- meet the goal of the last pass.
+abbrev pub HaveProgramsAfter : List KitPass → KitContext → KitContext → Ptr Operation → Type 0
+HaveProgramsAfter passes before after root = (numbered : List ℕ → ℕ) → NumbersTextsApart numbered →
+    PassedPrograms (map pass_of passes) before after root numbered
+
 -- What is written of a module after passes: the text of what they make, one after another, of the module. Its functions
 -- are the module's, behave as they do, and meet the goal of the last pass: the programs of both, whatever numbers names
 -- have, say so.
 pub record PassesGive (passes : List KitPass) (before : KitContext) (root : Ptr Operation) (text : List ℕ) : Type 0 where
   pub after : KitContext
   pub passed : IsOptimised (map pass_of passes) before after root
-  pub programs : (numbered : List ℕ → ℕ) → NumbersTextsApart numbered →
-      PassedPrograms (map pass_of passes) before after root numbered
+  pub programs : HaveProgramsAfter passes before after root
   pub written : IsWrittenAs after root text
 
 -- The text of a module after passes: it is made, or memory is refused, or too few numbers of values are left for what a

@@ -37,7 +37,7 @@ pub record Loads (bytes : List ℕ) (ctx new_ctx : KitContext) (root : Ptr Opera
   pub counted : new_ctx.program.counter ≡ ctx.program.counter + length (definitions_of accepted.0.text)
 
 module _ {R : Type 0} (remaining : R → Option (List ℕ)) (old new : Watched R) where
-  -- Why a load is refused: a read failed or 2^40 bytes and more were given, memory was refused, or all bytes that were
+  -- Why a load is refused: a read failed or 2^40 reads didn't meet the end, memory was refused, or all bytes that were
   -- given deserve it or overfill the context.
   abbrev pub Refuses : (List ℕ → Type 0) → Refusal → Type 0
   Refuses overfill Read = FailsReading remaining old new (2 ^ 40)

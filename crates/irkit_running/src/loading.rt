@@ -28,8 +28,7 @@ const TURNS: u64 = 1 << 40;
 ///
 /// A refusal leaves what the context holds as it was, and says the first fault of the whole input: bytes that are no
 /// UTF-8, a fault of the text by line and column, or a broken rule; or that a read failed, that the end wasn't met
-/// after 2^40 bytes or more, that memory was refused, or that the context has too few numbers left for the
-/// text's values.
+/// in 2^40 reads, that memory was refused, or that the context has too few numbers left for the text's values.
 pub fn load<R: Read>(
     alloc: Global,
     ctx: &mut Context<Kit>,

@@ -1,10 +1,14 @@
 //! From text through passes to text.
-ghost use Rattle.std.specs.Prelude.{◌≡◌, false, IfOk};
+ghost use Rattle.std.specs.Prelude.{◌≡◌, false, map, Err, IfOk, OnOk};
 ghost use Rattle.std.specs.String.{string_bytes};
 ghost use Rattle.irkit_streams.specs.Streams.{has_failed};
 ghost use Rattle.kit_ruled_passes.specs.Held.{HoldsModule};
 ghost use Rattle.irkit_running.specs.Known.{CanBeWritten, HasGrammar};
-ghost use Rattle.irkit_running.specs.Lists.{EndsPasses, IsWrittenAs};
+ghost use Rattle.ir_base.specs.declared.growth.GrowError.TheVariants.{CounterFull};
+ghost use Rattle.kit_optimiser.specs.Outside.{KeepsRest, StaysOutside};
+ghost use Rattle.kit_optimiser.specs.Passed.{FillsUp, IsOptimised, pass_of};
+ghost use Rattle.opt_inside.specs.Outside.{AddsNoneOutside};
+ghost use Rattle.irkit_running.specs.Lists.{EndsPasses, HaveProgramsAfter, IsWrittenAs};
 ghost use Rattle.irkit_running.specs.Outcomes.{EndsRun, GivesText};
 
 use crate::knowing::{know_ordinary, know_own_text};
@@ -88,16 +92,44 @@ fn optimised_text(
     requires grammar { HasGrammar }
     ensures { EndsPasses passes.now ctx.old root string_bytes result }
 {
+    optimise(alloc, ctx, root, passes)?;
+    Ok(text_of(alloc, ctx, root)?)
+}
+
+/// Runs passes over a module that [`load`] gave, one after the other. What they leave is a module again, which can be
+/// written by [`text_of`], and what stands outside the module stays as it is.
+///
+/// # Errors
+/// `Memory`, and `CounterFull` where too few numbers of values are left for a pass: those before it are done then, and
+/// a part of it may be.
+pub fn optimise(
+    alloc: Global,
+    ctx: &mut Context<Kit>,
+    root: Ptr<Operation>,
+    passes: &[KitPass],
+) -> Result<(), GrowError>
+    requires holds { HoldsModule ctx.old root }
+    requires writable { CanBeWritten ctx.old root }
+    ensures passed { OnOk result (IsOptimised (map pass_of passes.now) ctx.old ctx.new root) }
+    ensures programs { OnOk result (HaveProgramsAfter passes.now ctx.old ctx.new root) }
+    ensures holds { OnOk result (HoldsModule ctx.new root) }
+    ensures writable { OnOk result (CanBeWritten ctx.new root) }
+    ensures full { result ≡ Err CounterFull → FillsUp (map pass_of passes.now) ctx.old root }
+    ensures outside { KeepsRest ctx.old.program ctx.new.program root }
+    ensures stays { OnOk result (StaysOutside ctx.old.program ctx.new.program root) }
+    ensures none_come { OnOk result (AddsNoneOutside ctx.old.program ctx.new.program root) }
+    ensures types { ctx.new.types ≡ ctx.old.types }
+{
     know_tree(ctx.program(), root);
     know_ordinary(ctx, root);
     optimised_modules_have_programs();
     run_passes(alloc, ctx, root, passes)?;
     know_ordinary(ctx, root);
-    Ok(module_text(alloc, ctx, root)?)
+    Ok(())
 }
 
-/// The text of a module that can be written, with its line end.
-fn module_text(
+/// The text of a module that [`load`] gave, as it is now, with its line end.
+pub fn text_of(
     alloc: Global,
     ctx: &Context<Kit>,
     root: Ptr<Operation>,

@@ -13,8 +13,8 @@ use std::io::Read;
 const CHUNK: usize = 65536;
 
 /// Reads to the reader's end, and gives all bytes that it gave.
-/// It makes at most `turns` calls, so `Read` comes where a call failed, or else only from a reader that gave at least
-/// so many bytes. `Memory` where the bytes found no room.
+/// It makes at most `turns` calls: `Read` comes where one failed, or else only where so many were made and each gave a
+/// byte at least. `Memory` where the bytes found no room.
 pub fn read_to_end<R: Read>(
     alloc: Global,
     reader: &mut Watched<R>,

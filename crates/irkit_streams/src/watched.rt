@@ -1,17 +1,19 @@
-//! A reader or a writer that remembers whether one of its calls failed.
-ghost use Rattle.std.specs.Prelude.{◌≡◌, ◌||◌, ◌==◌, is_err, MatchResult, true, false};
+//! A reader or a writer that remembers whether one of its calls failed, and counts its reads.
+ghost use Rattle.std.specs.Prelude.{◌≡◌, ◌+◌, ◌||◌, ◌==◌, cond, is_err, MatchResult, true, false};
 ghost use Rattle.std.specs.Io.{ReadsAtMost, WritesAtMost};
 ghost use Rattle.std.specs.Io.KnownBytes.{Keeps, ReadConsumes, WriteAppends};
-ghost use Rattle.irkit_streams.specs.Streams.{has_failed, inner_of};
+ghost use Rattle.irkit_streams.specs.Streams.{has_failed, calls_of, counted, ends_of, inner_of, IsUnread};
 
 use std::io;
 use std::io::{Read, Write};
 
-/// Wraps a reader or a writer, and tells whether a call has failed or a write has taken none.
+/// Wraps a reader or a writer, tells whether a call has failed or a write has taken none, and counts the reads.
 #[derive(Drop)]
 pub struct Watched<T> {
     inner: T,
     failed: bool,
+    calls: u64,
+    ends: u64,
 }
 
 impl<T> Watched<T> {
@@ -19,10 +21,14 @@ impl<T> Watched<T> {
     pub fn new(inner: T) -> Self
         ensures inner { inner_of result ≡ inner }
         ensures fresh { has_failed result ≡ false }
+        ensures unread { calls_of result ≡ 0 }
+        ensures unended { ends_of result ≡ 0 }
     {
         Watched {
             inner,
             failed: false,
+            calls: 0,
+            ends: 0,
         }
     }
 
@@ -31,6 +37,20 @@ impl<T> Watched<T> {
         ensures { result ≡ has_failed self.now }
     {
         self.failed
+    }
+
+    /// How often it was read. The count stops at the largest number.
+    pub fn calls(&self) -> u64
+        ensures { result ≡ calls_of self.now }
+    {
+        self.calls
+    }
+
+    /// How many of these reads gave no byte, as each does that meets the end.
+    pub fn ends(&self) -> u64
+        ensures { result ≡ ends_of self.now }
+    {
+        self.ends
     }
 
     /// What it watches.
@@ -49,10 +69,17 @@ impl<T: Read> Read for Watched<T> {
         ensures bytes { ReadConsumes (T.remaining (inner_of self.old)) (T.remaining (inner_of self.new))
             result buf.new }
         ensures watched { has_failed self.new ≡ (has_failed self.old || is_err result) }
+        ensures calls { calls_of self.new ≡ counted (calls_of self.old + 1) }
+        ensures ends { MatchResult result
+            (λ n. ends_of self.new ≡ cond (n == 0) (counted (ends_of self.old + 1)) (ends_of self.old))
+            (λ _. ends_of self.new ≡ ends_of self.old) }
     {
         let outcome = self.inner.read(buf);
-        if outcome.is_err() {
-            self.failed = true;
+        self.calls = self.calls.saturating_add(1);
+        match outcome {
+            Ok(0) => self.ends = self.ends.saturating_add(1),
+            Ok(_) => {}
+            Err(_) => self.failed = true,
         }
         outcome
     }
@@ -66,6 +93,7 @@ impl<T: Write> Write for Watched<T> {
         ensures bytes { WriteAppends (T.contents (inner_of self.old)) (T.contents (inner_of self.new)) result buf.now }
         ensures watched { MatchResult result (λ n. has_failed self.new ≡ (has_failed self.old || n == 0))
             (λ _. has_failed self.new ≡ true) }
+        ensures unread { IsUnread self.old self.new }
     {
         let outcome = self.inner.write(buf);
         if let Ok(1..) = outcome {} else {
@@ -77,6 +105,7 @@ impl<T: Write> Write for Watched<T> {
     fn flush(&mut self) -> io::Result<()>
         ensures bytes { Keeps (T.contents (inner_of self.old)) (T.contents (inner_of self.new)) }
         ensures watched { has_failed self.new ≡ (has_failed self.old || is_err result) }
+        ensures unread { IsUnread self.old self.new }
     {
         let outcome = self.inner.flush();
         if outcome.is_err() {

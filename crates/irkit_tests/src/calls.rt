@@ -1,6 +1,6 @@
 //! The program, as the tests call it.
 use crate::fakes::{Dripping, Narrow, writer_of};
-use irkit_driver::{Refusal, Watched, drive};
+use irkit_driver::{Refusal, Request, Watched, drive, serve};
 use std::alloc::{AllocError, Global};
 
 /// A module that holds nothing.
@@ -77,6 +77,30 @@ fn served(
     let mut faults = writer_of(alloc, 100, faults_room, true);
     let status = drive(alloc, words, &mut input, &mut output, &mut faults);
     Done::of(alloc, status, output.inner(), faults.inner())
+}
+
+/// What is done for a request and this input, which comes byte by byte.
+fn requested(alloc: Global, request: &Request, input: &[u8]) -> Result<Done, AllocError> {
+    let mut input = Watched::new(Dripping {
+        rest: input,
+        calls: 99999,
+    });
+    let mut output = writer_of(alloc, 7, 999, true);
+    let mut faults = writer_of(alloc, 100, 999, true);
+    let status = serve(alloc, request, &mut input, &mut output, &mut faults);
+    Done::of(alloc, status, output.inner(), faults.inner())
+}
+
+/// Whether a request on this input has this status, and writes and tells this.
+pub fn is_served(
+    alloc: Global,
+    request: &Request,
+    input: &[u8],
+    status: u8,
+    written: &str,
+    told: &str,
+) -> Result<bool, AllocError> {
+    Ok(requested(alloc, request, input)?.is(status, written, told))
 }
 
 /// What the program does on the words of a line and this input, which comes byte by byte, where its outputs have that

@@ -1,5 +1,6 @@
 //! Command lines with what the program does on them.
-use crate::calls::{EMPTY, PRINTED, SUM, does, driven};
+use crate::calls::{EMPTY, PRINTED, SUM, SUM_PRINTED, does, driven, is_served};
+use irkit_driver::{KitPass, Request};
 use std::alloc::{AllocError, Global};
 
 /// A line, an input and the room of the output, with the status, what is written and what is told.
@@ -74,6 +75,22 @@ fn commands_are_served(rt: HostRuntime) -> Result<(), AllocError> {
     Ok(())
 }
 
+/// Whether a request for two passes is served.
+fn is_optimised(alloc: Global) -> Result<bool, AllocError> {
+    let passes = [KitPass::Sccp, KitPass::Dce].to_vec(alloc)?;
+    is_served(alloc, &Request::Optimise(passes), SUM, 0, SUM_PRINTED, "")
+}
+
+/// Requests are served that come of no words.
+#[test]
+fn requests_are_served(rt: HostRuntime) -> Result<(), AllocError> {
+    let alloc = rt.alloc();
+    assert!(rt; is_served(alloc, &Request::Check, EMPTY, 0, "ok\n", "")?);
+    assert!(rt; is_served(alloc, &Request::Check, b"", 1, "", "error: syntax at 1:1\n")?);
+    assert!(rt; is_optimised(alloc)?);
+    Ok(())
+}
+
 /// Mistakes, each with the front of the fault that is told.
 const MISTAKES: &[(&str, &str)] = &[
     ("irkit", "'irkit' requires a subcommand"),
@@ -93,21 +110,31 @@ const MISTAKES: &[(&str, &str)] = &[
     ),
     (
         "irkit run --limit 18446744073709551616 f",
-        "not a number below 2^64\n",
+        "invalid value '18446744073709551616' for '--limit <N>': number too large",
     ),
-    ("irkit run --limit 0x3 f", "not a number below 2^64\n"),
+    (
+        "irkit run --limit 0x3 f",
+        "invalid value '0x3' for '--limit <N>': invalid digit",
+    ),
     (
         "irkit run --limit 3 f 1 18446744073709551616",
-        "not a number below 2^64\n",
+        "invalid value '18446744073709551616' for '[ARG]...': number too large",
     ),
     ("irkit run --limit 3 f -1", "unexpected argument '-1'"),
     ("irkit run --limit -3 f", "unexpected argument '-3'"),
     ("irkit -x", "unexpected argument '-x'"),
     ("irkit check more", "unexpected argument 'more'"),
-    ("irkit opt licm", "unknown pass\n"),
-    ("irkit opt sccp licm", "unknown pass\n"),
-    ("irkit opt Dce", "unknown pass\n"),
-    ("irkit opt simplify_cfg", "unknown pass\n"),
+    ("irkit opt licm", "invalid value 'licm' for '[PASS]...'"),
+    (
+        "irkit opt sccp licm",
+        "invalid value 'licm' for '[PASS]...'",
+    ),
+    ("irkit opt Dce", "invalid value 'Dce' for '[PASS]...'"),
+    (
+        "irkit opt simplify_cfg",
+        "invalid value 'simplify_cfg' for '[PASS]...'",
+    ),
+    ("irkit opt --version", "unexpected argument '--version'"),
     ("irkit opt --x", "unexpected argument '--x'"),
 ];
 
@@ -123,6 +150,44 @@ fn is_refused(alloc: Global, line: &str, fault: &str) -> Result<bool, AllocError
 fn mistakes_are_refused(rt: HostRuntime) -> Result<(), AllocError> {
     for (line, fault) in MISTAKES {
         assert!(rt; is_refused(rt.alloc(), line, fault)?, "{line}");
+    }
+    Ok(())
+}
+
+/// Passes that are misspelt, with the pass that is meant.
+const MISSPELT: &[(&str, &str)] = &[
+    ("sscp", "sccp"),
+    ("dces", "dce"),
+    ("Dce", "dce"),
+    ("simplify_cfg", "simplify-cfg"),
+    ("simplify", "simplify-cfg"),
+];
+
+/// Whether a pass is suggested for a word.
+fn is_suggested(alloc: Global, word: &str, pass: &str) -> Result<bool, AllocError> {
+    let line = format!(in alloc; "irkit opt {word}")?;
+    let tip = format!(in alloc; "  tip: a similar value exists: '{pass}'\n")?;
+    let did = driven(alloc, line.as_str(), b"x", 999, 9999)?;
+    Ok(did.status == 2 && did.told.contains(tip.as_str()))
+}
+
+/// A misspelt pass is told with the one that is meant.
+#[test]
+fn similar_passes_are_suggested(rt: HostRuntime) -> Result<(), AllocError> {
+    for (word, pass) in MISSPELT {
+        assert!(rt; is_suggested(rt.alloc(), word, pass)?, "{word}");
+    }
+    Ok(())
+}
+
+/// The version goes to the output.
+#[test]
+fn the_version_is_written(rt: HostRuntime) -> Result<(), AllocError> {
+    for line in ["irkit --version", "irkit -V"] {
+        assert!(rt;
+            does(rt.alloc(), line, b"x", 99, 0, "irkit 0.1.0\n", "")?,
+            "{line}"
+        );
     }
     Ok(())
 }

@@ -65,3 +65,17 @@ pub fn writer_of(alloc: Global, step: usize, room: usize, fails: bool) -> Watche
         fails,
     })
 }
+
+/// Takes all, and fails to pass it on.
+#[derive(Drop)]
+pub struct Clogged;
+
+impl Write for Clogged {
+    fn write(&mut self, buf: &[u8]) -> io::Result<usize> {
+        Ok(buf.len())
+    }
+
+    fn flush(&mut self) -> io::Result<()> {
+        Err(io::Error::from(ErrorKind::Interrupted))
+    }
+}

@@ -1,26 +1,31 @@
 //! Streams that give little, take little or fail, under reading, loading, running and checking.
 use crate::calls::{EMPTY, PRINTED, SUM, SUM_PRINTED, is_written};
-use crate::fakes::{Dripping, writer_of};
+use crate::fakes::{Clogged, Dripping, writer_of};
 use ir_characters::Text;
 use ir_context::Context;
 use irkit_driver::{KitPass, Refusal, Watched, check, load, run};
 use irkit_streams::{DecodeFault, ReadFault, decode, read_to_end};
 use kit::{Kit, let_go};
 use std::alloc::{AllocError, Global};
+use std::io::Write;
 use std::process::Abort;
 
 /// How many calls read the module that holds nothing to its end, byte by byte.
 const ENOUGH: u64 = 26;
 
 /// Whether reading two bytes in so many turns gives both, or ends in a failed read, where the reader fails after so
-/// many calls; and whether a call has failed then.
+/// many calls; and whether a call has failed then, three were made if there were as many turns, and the last gave none
+/// where that was the end.
 fn reads(alloc: Global, calls: u64, turns: u64, fails: bool, gives: bool) -> bool {
     let mut input = Watched::new(Dripping { rest: b"ab", calls });
     let is_right = match read_to_end(alloc, &mut input, turns) {
         Ok(bytes) => gives && bytes.as_slice() == b"ab".as_slice(),
         Err(fault) => !gives && fault == ReadFault::Read,
     };
-    is_right && input.has_failed() == fails
+    is_right
+        && input.has_failed() == fails
+        && input.calls() == turns.min(3)
+        && input.ends() == u64::from(gives)
 }
 
 /// Whether these bytes are the text of these characters.
@@ -162,4 +167,16 @@ fn a_write_may_take_a_part(rt: HostRuntime) {
     for example in EXAMPLES {
         is_written_in_parts(&rt, rt.alloc(), example);
     }
+}
+
+/// Whether a flush that fails has failed here, too.
+fn is_clogged() -> bool {
+    let mut output = Watched::new(Clogged);
+    output.flush().is_err() && output.has_failed()
+}
+
+/// A flush is passed on.
+#[test]
+fn a_flush_is_passed_on(rt: HostRuntime) {
+    assert!(rt; is_clogged());
 }

@@ -1,2 +1,4 @@
 pub mod CommandLine
+pub mod Lines
 pub mod Requests
+pub mod Parses

@@ -59,5 +59,5 @@ abbrev pub AsksFor : Option (Text × List Row) → Result Request RequestFault �
 AsksFor found (Ok request) = Asks found request
 AsksFor found (Err Memory) = Unit {0}
 AsksFor found (Err NoCommand) = AsksNothing found
-AsksFor found (Err UnknownPass) = AsksNothing found
+AsksFor found (Err (UnknownPass unknown)) = AsksNothing found
 AsksFor found (Err NoNumber) = AsksNothing found

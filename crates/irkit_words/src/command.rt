@@ -2,11 +2,26 @@
 ghost use Rattle.std.specs.Prelude.{◌≡◌, IfOk, IfErr, map, true, false, string_bytes};
 ghost use Rattle.clap.specs.declared.builder.Command.TheViews.{out-Command as fields_of};
 ghost use Rattle.clap.specs.Words.{FailsBy, app_of, fault_of, kind_of, subcommand_of, subcommand_rows_of, rule_of, takes};
-ghost use Rattle.irkit_words.specs.CommandLine.{irkit, check_app, optimise_app, run_app, limit_rule, path_rule, arguments_rule};
+ghost use Rattle.irkit_words.specs.CommandLine.{irkit, check_app, optimise_app, run_app, limit_rule, path_rule, arguments_rule, program};
 
+use crate::passes::POSSIBLE_PASSES;
 use clap::error::ErrorKind;
-use clap::{Arg, ArgAction, ArgMatches, Command, Error};
+use clap::{Arg, ArgAction, ArgMatches, Command, Error, value_parser};
 use std::alloc::{AllocError, Global};
+
+/// The program's name.
+pub(crate) const NAME: &str = "irkit";
+
+/// The program's version.
+pub const VERSION: &str = "0.1.0";
+
+/// What the program's exit status says.
+const STATUSES: &str = "Exit status:
+  0  done, or help or the version was asked for
+  1  the input is refused, or memory is, or a read or a write failed
+  2  a fault of the command line
+  3  run: the function trapped
+  4  run: the steps ran out";
 
 fn check_command<'a>(alloc: Global) -> Command<'a>
     ensures app { app_of result ≡ check_app }
@@ -22,9 +37,10 @@ fn optimise_command<'a>(alloc: Global) -> Result<Command<'a>, AllocError>
 {
     let passes = Arg::new(alloc, "passes")
         .action(ArgAction::Append)
-        .value_name("PASS");
+        .value_name("PASS")
+        .help(POSSIBLE_PASSES);
     Command::new(alloc, "opt")
-        .about("Runs passes over a module and writes it")
+        .about("Runs passes over a module, one after another, and writes it")
         .arg(passes)
 }
 
@@ -37,6 +53,7 @@ fn limit_argument<'a>(alloc: Global) -> Arg<'a>
         .long("limit")
         .value_name("N")
         .required(true)
+        .value_parser(value_parser!(u64))
         .help("At most so many steps are run")
 }
 
@@ -59,7 +76,8 @@ fn arguments_argument<'a>(alloc: Global) -> Arg<'a>
     Arg::new(alloc, "arguments")
         .action(ArgAction::Append)
         .value_name("ARG")
-        .help("The numbers that the function takes")
+        .value_parser(value_parser!(u64))
+        .help("The numbers that the function takes, each below 2^64")
 }
 
 #[tactic(auto, unfolding(crate::specs::CommandLine::run_app))]
@@ -69,9 +87,22 @@ fn run_command<'a>(alloc: Global) -> Result<Command<'a>, AllocError>
 {
     Command::new(alloc, "run")
         .about("Runs a function of a module and writes what it emits and how it ends")
+        .after_help(STATUSES)
         .arg(limit_argument(alloc))?
         .arg(path_argument(alloc))?
         .arg(arguments_argument(alloc))
+}
+
+/// The program without its subcommands, of which one is required.
+fn program_command<'a>(alloc: Global) -> Result<Command<'a>, AllocError>
+    ensures { IfOk result (λ c. app_of c ≡ program) }
+{
+    Command::new(alloc, NAME)
+        .version(VERSION)
+        .about("Reads, tests, optimises and runs modules from standard input")
+        .after_help(STATUSES)
+        .subcommand_required(true)
+        .bin_name(NAME)
 }
 
 #[tactic(auto, unfolding(crate::specs::CommandLine::irkit))]
@@ -80,9 +111,7 @@ fn command<'a>(alloc: Global) -> Result<Command<'a>, AllocError>
 {
     let optimise = optimise_command(alloc)?;
     let run = run_command(alloc)?;
-    Command::new(alloc, "irkit")
-        .about("Reads, tests, optimises and runs modules from standard input")
-        .subcommand_required(true)
+    program_command(alloc)?
         .subcommand(check_command(alloc))?
         .subcommand(optimise)?
         .subcommand(run)
@@ -90,8 +119,9 @@ fn command<'a>(alloc: Global) -> Result<Command<'a>, AllocError>
 
 /// What was found in the words, of which the first is the program's name.
 ///
-/// Refused where the words aren't of the command line, for help that is asked for, and for memory. The error's kind
-/// tells these apart, and `Display` of it is the text for the user: help, or the fault with the usage.
+/// Refused where the words aren't of the command line, where help or the version is asked for, and for memory. The
+/// error's kind tells these apart, and `Display` of it is the text for the user: help, the version, or the fault. Words
+/// for passes are any words here.
 pub fn parse<'a>(alloc: Global, words: &'a [String]) -> Result<ArgMatches<'a>, Error>
     ensures found { IfOk result (λ m. subcommand_rows_of m ≡ subcommand_of irkit (map string_bytes words.entry.now)) }
     ensures taken { IfErr result (λ e.

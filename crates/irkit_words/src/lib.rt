@@ -5,8 +5,14 @@
 #![tactic(auto)]
 
 mod command;
+mod lines;
+mod parsing;
+mod passes;
 mod request;
 
-pub use command::parse;
+pub use command::{VERSION, parse};
 pub use kit_ops::KitPass;
-pub use request::{Execution, Request, RequestFault, pass_named, request_of};
+pub use lines::{MEMORY_LINE, line_of};
+pub use parsing::{Parsed, understand};
+pub use passes::{UnknownPass, pass_named, pass_word};
+pub use request::{Execution, Request, RequestFault, request_of};

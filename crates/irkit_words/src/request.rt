@@ -1,6 +1,7 @@
 //! What the words ask for.
-ghost use Rattle.std.specs.Prelude.{◌≡◌, ◌≢◌, ◌↔◌, ℕ, List, Some, codes, IfOk, IsTrue, MatchOption, map, option_map};
+ghost use Rattle.std.specs.Prelude.{◌≡◌, ◌≢◌, ℕ, List, Some, codes, IfOk, MatchOption, MatchResult, map, option_map};
 
+use crate::passes::{UnknownPass, pass_named};
 use clap::ArgMatches;
 use kit_ops::KitPass;
 use std::alloc::{AllocError, AllocFailed, Global};
@@ -25,8 +26,9 @@ pub enum Request {
     Run(Execution),
 }
 
-/// Why the words of a parse ask for nothing.
-#[derive(Clone, Copy, Debug, PartialEq, Eq, Error)]
+/// Why the words of a parse ask for nothing. Of these a parse that [`parse`](crate::parse) gives has `Memory` and
+/// `UnknownPass` alone.
+#[derive(Debug, PartialEq, Eq, Drop, Error)]
 pub enum RequestFault {
     /// A request for memory was refused.
     #[error("memory")]
@@ -35,8 +37,8 @@ pub enum RequestFault {
     #[error("no command")]
     NoCommand,
     /// A word names no pass.
-    #[error("unknown pass")]
-    UnknownPass,
+    #[error("{0}")]
+    UnknownPass(UnknownPass),
     /// A limit or an argument is no number, or one that is too large.
     #[error("not a number below 2^64")]
     NoNumber,
@@ -65,31 +67,20 @@ impl<T: Drop> From<AllocFailed<T>> for RequestFault {
 ghost use Rattle.clap.specs.Words.{found_of, rows_of, subcommand_rows_of, all_of, first_of};
 ghost use Rattle.irkit_words.specs.Requests.{pass_name, AsksFor, SaysNumber, SayNumbers, words_at};
 
-/// The pass of this name.
-pub fn pass_named(name: &str) -> Option<KitPass>
-    ensures { MatchOption result ((p : KitPass) → name.now ≢ pass_name p) (λ p. name.now ≡ pass_name p) }
-{
-    match name {
-        "sccp" => Some(KitPass::Sccp),
-        "dce" => Some(KitPass::Dce),
-        "simplify-cfg" => Some(KitPass::SimplifyCfg),
-        _ => None,
-    }
-}
-
-/// The passes of these names, or nothing where one is unknown.
-fn passes_of(alloc: Global, names: &[&str]) -> Result<Option<Vec<KitPass>>, AllocError>
-    ensures { IfOk result (λ r. MatchOption r ((ps : List KitPass) → map pass_name ps ≢ map (λ n. n.now) names.now)
-        (λ v. map pass_name v.items ≡ map (λ n. n.now) names.now)) }
+/// The passes of these names, or the first that is unknown.
+fn passes_of(alloc: Global, names: &[&str]) -> Result<Result<Vec<KitPass>, UnknownPass>, AllocError>
+    ensures { let all = map (λ n. n.now) names.now in
+        IfOk result (λ r. MatchResult r (λ v. map pass_name v.items ≡ all)
+        (λ _. (ps : List KitPass) → map pass_name ps ≢ all)) }
 {
     let mut passes = Vec::new(alloc);
     for name in names {
         match pass_named(name) {
             Some(pass) => passes.push(pass)?,
-            None => return Ok(None),
+            None => return Ok(Err(UnknownPass::of(alloc, name)?)),
         }
     }
-    Ok(Some(passes))
+    Ok(Ok(passes))
 }
 
 /// The subcommand of a parse, with its matches.
@@ -121,8 +112,8 @@ fn optimise_of(alloc: Global, inner: &ArgMatches<'_>) -> Result<Request, Request
         return Ok(Request::Optimise(Vec::new(alloc)));
     };
     match passes_of(alloc, names)? {
-        Some(passes) => Ok(Request::Optimise(passes)),
-        None => Err(RequestFault::UnknownPass),
+        Ok(passes) => Ok(Request::Optimise(passes)),
+        Err(unknown) => Err(RequestFault::UnknownPass(unknown)),
     }
 }
 

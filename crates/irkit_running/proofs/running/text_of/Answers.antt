@@ -2,7 +2,7 @@ use Rattle.std.proofs.Common.{refl}
 use Rattle.std.specs.String.{string_bytes}
 use Rattle.kit_language.specs.Language.{kit_language}
 use Rattle.irkit_running.proofs.WrittenLemmas.{written, both_ok}
-use Rattle.irkit_running.proofs.running.module_text.Goals as goal
+use Rattle.irkit_running.proofs.running.text_of.Goals as goal
 
 pub print_module-requires : goal.print_module-requires
 print_module-requires c = c.requires.holds.live
