@@ -1,0 +1,6 @@
+pub mod Booleans
+pub mod Exact
+mod FormatLoops
+mod NextValues
+pub mod SharedTokens
+mod Words

@@ -1,0 +1,5 @@
+pub mod Accepted
+pub mod Decided
+pub mod Test
+pub mod Tokens
+pub mod Values

@@ -1,0 +1,4 @@
+pub mod Computed
+mod Follows
+mod NextTokens
+mod OneReading
