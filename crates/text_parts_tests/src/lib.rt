@@ -1,0 +1,9 @@
+//! Tests of the parts of the text layer's face by their public calls.
+#![tactic(auto)]
+
+#[cfg(test)]
+mod errors;
+#[cfg(test)]
+mod locations;
+#[cfg(test)]
+mod streams;

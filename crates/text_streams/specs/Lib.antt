@@ -1,0 +1,8 @@
+pub mod Locations
+pub mod Numbers
+pub mod Positions
+pub mod Quotes
+pub mod Reading
+pub mod Separators
+pub mod Spaces
+pub mod Streams

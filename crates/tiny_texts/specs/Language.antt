@@ -1,0 +1,17 @@
+-- The language of the dialect.
+use Rattle.std.specs.Prelude.{[], ◌∷◌, slice_get}
+use Rattle.ir_forest.specs.Language.{Language}
+use Rattle.ir_formats.specs.Ordered.{PartPositions, leads_with, edge_leads}
+use Rattle.ir_rereading.specs.Texts.{language_of}
+use Rattle.text_dialect.specs.formats.Isolated.{is_isolated}
+use Rattle.tiny_texts.specs.Forms.{formats, read_ops}
+use Rattle.tiny_texts.specs.Kinds.{op_has}
+use Rattle.tiny_texts.specs.Says.{values}
+
+-- where the parts of lists lead to: the operands of edges alone are lists
+abbrev pub leads : PartPositions
+leads = leads_with (edge_leads ∷ edge_leads ∷ [])
+
+-- the formats of the kinds, which of them are isolated, and what is made of pieces
+abbrev pub tiny_language : Language
+tiny_language = language_of formats (slice_get read_ops) (is_isolated op_has) values

@@ -1,0 +1,175 @@
+//! Operations, made of parts and as parts.
+ghost use Rattle.std.specs.Prelude.{◌≡◌, ℕ, List, Some, Err, IfOk, IsSome, length, slice_get};
+ghost use Rattle.ir_names.specs.Tree.{Trees};
+ghost use Rattle.ir_print.specs.Pieces.{Pieces};
+ghost use Rattle.ir_print.specs.Shown.{Pairs, Said, ShowsAll, ShowsParts, ShowsType};
+ghost use Rattle.ir_program.specs.Program.{operation_at};
+ghost use Rattle.ir_types.specs.Interned.{KeepsTypes};
+ghost use Rattle.text_dialect.specs.Making as made;
+ghost use Rattle.text_dialect.specs.Seen.{SeenOperation, seen, types_of};
+ghost use Rattle.text_dialect.specs.declared.dialect.MakeFault.TheVariants.{Refused};
+ghost use Rattle.tiny_texts.specs.Forms.{form_of, read_ops};
+ghost use Rattle.tiny_texts.specs.Making.{entries_of, parts_fit, parts_of, piece_of, value_in};
+ghost use Rattle.tiny_texts.specs.Says.{is_of, says, types_in, values};
+
+use crate::dialect::{Int, Num, TinyOp, TinyText};
+use ir_context::{Context, OperandCalls, OperationCalls};
+use ir_names::{AttributeDict, Identifier, TypeHandle};
+use ir_print::Part;
+use ir_program::{Operation, Ptr};
+use std::alloc::{AllocError, Global};
+use text_dialect::{MakeFault, OperationDraft};
+
+/// The key of the number that an operation holds.
+const VALUE: &str = "t_value";
+
+/// What follows the name of an operation.
+#[derive(Clone, Copy, PartialEq, Eq)]
+pub enum Form {
+    Region,
+    Value,
+    Operand,
+    Edge,
+    Nothing,
+}
+
+impl TinyOp {
+    /// What follows its name.
+    pub(crate) fn form(self) -> Form
+        ensures { result ≡ form_of self }
+    {
+        match self {
+            TinyOp::Box | TinyOp::Loop | TinyOp::Pure => Form::Region,
+            TinyOp::Def => Form::Value,
+            TinyOp::Id | TinyOp::Use => Form::Operand,
+            TinyOp::Br => Form::Edge,
+            TinyOp::Ret => Form::Nothing,
+        }
+    }
+}
+
+/// Whether a part is that of a form.
+fn is_part_of(form: Form, part: &Part<TinyText>) -> bool
+    ensures { result ≡ is_of form (piece_of part.now) }
+{
+    match form {
+        Form::Region => matches!(part, Part::Region),
+        Form::Value => matches!(part, Part::Attribute(_)),
+        Form::Operand => matches!(part, Part::Operands(1)),
+        Form::Edge => matches!(part, Part::Successor(_)),
+        Form::Nothing => false,
+    }
+}
+
+/// Whether parts are those of a form.
+fn fits(form: Form, parts: &[Part<TinyText>]) -> bool
+    ensures { result ≡ parts_fit form parts.now }
+{
+    match (form, parts) {
+        (Form::Nothing, _) => parts.is_empty(),
+        (_, [part]) => is_part_of(form, part),
+        _ => false,
+    }
+}
+
+/// The number that parts are, if they are one.
+fn value_in(parts: &[Part<TinyText>]) -> Option<Num>
+    ensures { result ≡ value_in parts.now }
+{
+    match parts {
+        [Part::Attribute(value)] => Some(*value),
+        _ => None,
+    }
+}
+
+/// The attributes of an operation with this number, if it has one.
+fn attributes_of(alloc: Global, value: Option<Num>) -> Result<AttributeDict<TinyText>, AllocError>
+    ensures { IfOk result (λ attributes. attributes ≡ entries_of value) }
+{
+    let mut attributes = AttributeDict::new(alloc);
+    if let Some(value) = value {
+        let _ = attributes.set(Identifier::new(alloc, VALUE)?, value)?;
+    }
+    Ok(attributes)
+}
+
+/// The types of the results of operations of a kind, which are interned.
+fn result_types_of(
+    alloc: Global,
+    ctx: &mut Context<TinyText>,
+    kind: TinyOp,
+) -> Result<Vec<TypeHandle>, AllocError>
+    ensures program { ctx.new.program ≡ ctx.old.program }
+    ensures types { KeepsTypes ctx.old.types ctx.new.types }
+    ensures made { IfOk result (λ tys. Pairs (ShowsType says ctx.new.types.keys) tys.items (types_in kind)) }
+{
+    match kind {
+        TinyOp::Def | TinyOp::Id => {
+            let ty = ctx.instantiate_key(alloc, Int)?;
+            Ok(vec![in alloc; ty]?)
+        }
+        _ => Ok(Vec::new(alloc)),
+    }
+}
+
+/// The parts of an operation of a form with this number, if it has one, and so many operands.
+fn parts_of(
+    alloc: Global,
+    form: Form,
+    value: Option<Num>,
+    operands: usize,
+) -> Result<Vec<Part<TinyText>>, AllocError>
+    ensures { IfOk result (λ parts. parts.items ≡ parts_of form value operands) }
+{
+    match (form, value) {
+        (Form::Region, _) => Ok(vec![in alloc; Part::Region]?),
+        (Form::Value, Some(value)) => Ok(vec![in alloc; Part::Attribute(value)]?),
+        (Form::Operand, _) => Ok(vec![in alloc; Part::Operands(operands)]?),
+        (Form::Edge, _) => Ok(vec![in alloc; Part::Successor(operands)]?),
+        _ => Ok(Vec::new(alloc)),
+    }
+}
+
+/// What an operation of these parts is made with, or that the first part is refused. The type of results is interned.
+///
+/// # Errors
+/// `Refused` with the number 0, and `Memory`.
+pub(crate) fn make_operation(
+    alloc: Global,
+    ctx: &mut Context<TinyText>,
+    kind: TinyOp,
+    parts: &[Part<TinyText>],
+) -> Result<OperationDraft<TinyText>, MakeFault>
+    ensures program { ctx.new.program ≡ ctx.old.program }
+    ensures types { KeepsTypes ctx.old.types ctx.new.types }
+    ensures made { IfOk result (λ d. made.MakesOperation says values (slice_get read_ops) kind
+        ctx.old.types.keys ctx.new.types.keys parts.now d.attributes d.result_types.items) }
+    ensures refused { (i : ℕ) → result ≡ Err (Refused i)
+        → made.RefusesOperation says values (slice_get read_ops) kind ctx.old.types.keys parts.now i }
+{
+    if !fits(kind.form(), parts) {
+        return Err(MakeFault::Refused(0));
+    }
+    let attributes = attributes_of(alloc, value_in(parts))?;
+    let result_types = result_types_of(alloc, ctx, kind)?;
+    Ok(OperationDraft {
+        result_types,
+        attributes,
+    })
+}
+
+/// The parts of an operation. Operands, edges and regions are given by how many there are of them.
+pub(crate) fn operation_parts(
+    alloc: Global,
+    ctx: &Context<TinyText>,
+    op: Ptr<Operation>,
+) -> Result<Vec<Part<TinyText>>, AllocError>
+    requires live { IsSome (operation_at ctx.now.program op) }
+    ensures { (types : List Int) → (o : SeenOperation TinyOp Num) → (n : ℕ) → (us : Trees (Said Num))
+        → (ps : Pieces) → (seen ctx.now).operation op ≡ Some o
+        → says.of_operation o.kind o.attributes (length o.operands) (types_of o.results) ≡ Some (n, us)
+        → ShowsAll says types us ps → IfOk result (λ parts. ShowsParts says types parts.items ps) }
+{
+    let value = op.deref(ctx).attributes.get(VALUE).copied();
+    parts_of(alloc, op.kind(ctx).form(), value, op.get_num_operands(ctx))
+}

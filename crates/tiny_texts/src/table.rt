@@ -1,0 +1,192 @@
+//! The table by which the texts of the dialect are read, as it is worked out of the formats (`text_dialect::table_of`).
+ghost use Rattle.std.specs.Prelude.{refl};
+
+use crate::dialect::TinyText;
+use text_dialect::{PartTable, ReadDialect};
+
+const TABLE: &[PartTable] = &[
+    PartTable {
+        choices: &[
+            (1, 0),
+            (2, 0),
+            (16, 0),
+            (17, 0),
+            (18, 0),
+            (19, 0),
+            (20, 0),
+            (21, 0),
+            (22, 0),
+            (23, 0),
+        ],
+        follows: &[0],
+        closing: None,
+        cost: 3,
+        shortest: 0,
+        rank: 3,
+    },
+    PartTable {
+        choices: &[
+            (1, 2),
+            (2, 2),
+            (16, 1),
+            (17, 1),
+            (18, 1),
+            (19, 1),
+            (20, 1),
+            (21, 1),
+            (22, 1),
+            (23, 1),
+        ],
+        follows: &[0, 10, 11, 12],
+        closing: None,
+        cost: 2,
+        shortest: 1,
+        rank: 2,
+    },
+    PartTable {
+        choices: &[(7, 4), (8, 3)],
+        follows: &[8],
+        closing: Some(3),
+        cost: 1,
+        shortest: 3,
+        rank: 1,
+    },
+    PartTable {
+        choices: &[
+            (16, 18),
+            (17, 19),
+            (18, 20),
+            (19, 21),
+            (20, 22),
+            (21, 23),
+            (22, 28),
+            (23, 29),
+        ],
+        follows: &[0, 10, 11, 12],
+        closing: None,
+        cost: 1,
+        shortest: 22,
+        rank: 1,
+    },
+    PartTable {
+        choices: &[(9, 5)],
+        follows: &[0, 10, 11, 12],
+        closing: None,
+        cost: 1,
+        shortest: 5,
+        rank: 2,
+    },
+    PartTable {
+        choices: &[(10, 6), (12, 7)],
+        follows: &[10],
+        closing: Some(6),
+        cost: 2,
+        shortest: 6,
+        rank: 1,
+    },
+    PartTable {
+        choices: &[(12, 12)],
+        follows: &[10, 12],
+        closing: None,
+        cost: 1,
+        shortest: 12,
+        rank: 2,
+    },
+    PartTable {
+        choices: &[(1, 15), (2, 15), (14, 14)],
+        follows: &[14],
+        closing: Some(14),
+        cost: 2,
+        shortest: 14,
+        rank: 1,
+    },
+    PartTable {
+        choices: &[(7, 17), (14, 16)],
+        follows: &[14],
+        closing: Some(16),
+        cost: 1,
+        shortest: 16,
+        rank: 1,
+    },
+    PartTable {
+        choices: &[(1, 13), (2, 13)],
+        follows: &[7, 14],
+        closing: None,
+        cost: 1,
+        shortest: 13,
+        rank: 2,
+    },
+    PartTable {
+        choices: &[
+            (1, 9),
+            (2, 9),
+            (10, 8),
+            (12, 8),
+            (16, 9),
+            (17, 9),
+            (18, 9),
+            (19, 9),
+            (20, 9),
+            (21, 9),
+            (22, 9),
+            (23, 9),
+        ],
+        follows: &[10, 12],
+        closing: Some(8),
+        cost: 3,
+        shortest: 8,
+        rank: 1,
+    },
+    PartTable {
+        choices: &[(10, 10), (11, 11), (12, 10)],
+        follows: &[10, 12],
+        closing: Some(10),
+        cost: 1,
+        shortest: 10,
+        rank: 1,
+    },
+    PartTable {
+        choices: &[(24, 30)],
+        follows: &[7, 14],
+        closing: None,
+        cost: 1,
+        shortest: 30,
+        rank: 1,
+    },
+    PartTable {
+        choices: &[(25, 31)],
+        follows: &[0, 10, 11, 12],
+        closing: None,
+        cost: 1,
+        shortest: 31,
+        rank: 1,
+    },
+    PartTable {
+        choices: &[(1, 25), (2, 25), (14, 24)],
+        follows: &[14],
+        closing: Some(24),
+        cost: 1,
+        shortest: 24,
+        rank: 1,
+    },
+    PartTable {
+        choices: &[(7, 27), (14, 26)],
+        follows: &[14],
+        closing: Some(26),
+        cost: 1,
+        shortest: 26,
+        rank: 1,
+    },
+];
+
+impl ReadDialect for TinyText {
+    ghost use Rattle.tiny_texts.specs.Language.{leads};
+
+    ghost leads = { leads };
+
+    fn table() -> &'static [PartTable] {
+        TABLE
+    }
+
+    ghost ordered = { refl };
+}
