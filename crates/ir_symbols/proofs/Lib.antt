@@ -7,3 +7,4 @@ pub mod Collected
 pub mod Members
 pub mod Kept
 pub mod Removed
+pub mod TableWalked

@@ -5,3 +5,4 @@ pub mod Tables
 pub mod Collecting
 pub mod Insertions
 pub mod Collections
+pub mod TableWalks

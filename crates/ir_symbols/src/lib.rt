@@ -10,6 +10,7 @@ mod payload;
 mod placing;
 mod scanning;
 mod tables;
+mod walking;
 
 pub use bodies::single_block;
 pub use collections::SymbolTableCollection;
@@ -17,3 +18,4 @@ pub use errors::SymbolTableErr;
 pub use nearest::{lookup_symbol, nearest_symbol_table, scan};
 pub use payload::SymbolPayload;
 pub use tables::SymbolTable;
+pub use walking::walk_symbol_table;

@@ -7,3 +7,5 @@ mod collections;
 mod modules;
 #[cfg(test)]
 mod tables;
+#[cfg(test)]
+mod walks;

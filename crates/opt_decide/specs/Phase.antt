@@ -86,8 +86,8 @@ BringsNoneOutside {O} old new op = (p : Ptr Operation) (v : OperationView O)
     → (StandsInside new (OperationNode op) (OperationNode p) → ⊥) → operation_at new p ≡ Some v
     → (StandsInside old (OperationNode op) (OperationNode p) → ⊥) × (operation_at old p ≡ Some v)
 
--- the branches that their operands decide are unconditional ones: the handle of each and one that led nowhere change
--- places, and all else keeps its handle
+-- the branches that their operands decide are unconditional ones: blocks and values keep their handles, as the operation
+-- does, and each other operation keeps its own or changes places with one that led nowhere
 pub record DecidesBranches {O B A : Type 0} (d : Dialect (in_program O B) A) (old new : Program O B)
     (op : Ptr Operation) (t : ProgramTree O B) : Type 0 where
   pub around : TreeSurroundings by_handle A

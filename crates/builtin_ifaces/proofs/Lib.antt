@@ -1,0 +1,4 @@
+pub mod ListedLemmas
+pub mod RangeLemmas
+pub mod SegmentLemmas
+pub mod Within

@@ -1,0 +1,9 @@
+pub mod Keys
+pub mod Attributes
+pub mod Segments
+pub mod Branches
+pub mod Calls
+pub mod Symbols
+pub mod Types
+pub mod Listed
+pub mod Interfaces

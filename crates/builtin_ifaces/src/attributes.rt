@@ -1,0 +1,78 @@
+//! What the attributes of an operation hold.
+ghost use Rattle.std.specs.Prelude.{◌≡◌, IsSome, option_copied, option_map};
+ghost use Rattle.ir_names.specs.Identifier.{text_of};
+ghost use Rattle.ir_program.specs.Program.{operation_at};
+ghost use Rattle.builtin_ifaces.specs.Attributes.{attribute_under, held_under};
+
+use crate::dialect::BuiltinDialect;
+use ir_context::{Context, OperationCalls};
+use ir_names::{Identifier, TypeHandle};
+use ir_program::{Operation, Ptr};
+use ir_types::DialectTables;
+
+/// The keys of the attributes that interfaces read.
+pub mod keys {
+    /// An operation's name as a symbol.
+    pub const SYMBOL_NAME: &str = "builtin_sym_name";
+
+    /// How many operands each segment has.
+    pub const SEGMENT_SIZES: &str = "builtin_operand_segment_sizes";
+}
+
+/// The attribute of the operation under a key.
+pub(crate) fn attribute_under<'a, D: DialectTables>(
+    op: Ptr<Operation>,
+    ctx: &'a Context<D>,
+    key: &str,
+) -> Option<&'a D::Attr>
+    requires { IsSome (operation_at ctx.now.program op) }
+    ensures { option_copied result ≡ attribute_under ctx.now.program op key.now }
+{
+    op.deref(ctx).attributes.get(key)
+}
+
+/// The identifier that the attribute under a key holds.
+pub(crate) fn identifier_under<'a, D: BuiltinDialect>(
+    op: Ptr<Operation>,
+    ctx: &'a Context<D>,
+    key: &str,
+) -> Option<&'a Identifier>
+    requires { IsSome (operation_at ctx.now.program op) }
+    ensures { option_map (λ name. text_of name.now) result
+        ≡ held_under ctx.now.program op D.held_identifier key.now }
+{
+    match attribute_under(op, ctx, key) {
+        Some(attr) => D::as_identifier(attr),
+        None => None,
+    }
+}
+
+/// The type that the attribute under a key holds.
+pub(crate) fn type_under<D: BuiltinDialect>(
+    op: Ptr<Operation>,
+    ctx: &Context<D>,
+    key: &str,
+) -> Option<TypeHandle>
+    requires { IsSome (operation_at ctx.now.program op) }
+    ensures { result ≡ held_under ctx.now.program op D.held_type key.now }
+{
+    match attribute_under(op, ctx, key) {
+        Some(attr) => D::as_type(attr),
+        None => None,
+    }
+}
+
+/// The sizes that the attribute under a key holds.
+pub(crate) fn sizes_under<'a, D: BuiltinDialect>(
+    op: Ptr<Operation>,
+    ctx: &'a Context<D>,
+    key: &str,
+) -> Option<&'a [u32]>
+    requires { IsSome (operation_at ctx.now.program op) }
+    ensures { option_map (λ sizes. sizes.now) result ≡ held_under ctx.now.program op D.held_sizes key.now }
+{
+    match attribute_under(op, ctx, key) {
+        Some(attr) => D::as_segment_sizes(attr),
+        None => None,
+    }
+}
