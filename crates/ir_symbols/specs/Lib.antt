@@ -1,4 +1,5 @@
 pub mod Symbols
+pub mod Contents
 pub mod Scans
 pub mod Lookups
 pub mod Tables

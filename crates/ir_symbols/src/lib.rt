@@ -3,6 +3,7 @@
 
 mod bodies;
 mod collections;
+mod contents;
 mod errors;
 mod names;
 mod nearest;

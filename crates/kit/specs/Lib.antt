@@ -1,5 +1,6 @@
 pub mod Agree
 pub mod Alike
+pub mod Builtin
 pub mod Dropped
 pub mod Entries
 pub mod Folded

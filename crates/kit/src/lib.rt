@@ -2,6 +2,7 @@
 #![tactic(auto)]
 
 mod attributes;
+mod builtin;
 mod dialect;
 mod dropping;
 mod ending;
