@@ -4,7 +4,7 @@ use Rattle.std.proofs.lemmas.Bool.{false≢true, eqb-true}
 use Rattle.ir_names.specs.contracts.interfaces.OpInterfacePartialEq.TheImpl as of_interfaces
 use Rattle.ir_names.specs.declared.interfaces.OpInterface.{OpInterface}
 use Rattle.ir_names.specs.declared.interfaces.OpInterface.TheVariants as interface
-use Rattle.builtin_ifaces.specs.Listed.{lists_interface, has_only_numbers}
+use Rattle.builtin_tables.specs.Listed.{lists_interface, has_only_numbers}
 
 -- what compares equal to a plain interface is the same
 pub plain_same : (i h : OpInterface) → has_only_numbers i ≡ true → of_interfaces.eq-value.it h i ≡ true → h ≡ i

@@ -11,8 +11,8 @@ use Rattle.ir_context.specs.declared.notes.OperationData.{OperationData}
 use Rattle.op_ifaces.specs.Rows.{row_type}
 use Rattle.op_ifaces.specs.declared.rows.Row.TheVariants.{Operands}
 use Rattle.builtin_ifaces.specs.Segments.{HasSegment}
-use Rattle.builtin_ifaces.specs.declared.dialect.SuccessorLayout.{SuccessorLayout}
-use Rattle.builtin_ifaces.specs.declared.dialect.SuccessorLayout.TheVariants.{Trailing, Segments}
+use Rattle.builtin_tables.specs.declared.dialect.SuccessorLayout.{SuccessorLayout}
+use Rattle.builtin_tables.specs.declared.dialect.SuccessorLayout.TheVariants.{Trailing, Segments}
 
 module _ {D TypeKind AttrKind TypeBody Saved Location OpKind Attr TypeKey B : Type 0} (held_sizes : Attr → Option (List ℕ)) (segment_count : OpKind → List (List ℕ × Attr) → ℕ) (c : Program (OperationData D TypeKind AttrKind TypeBody Saved Location OpKind Attr TypeKey) B) (op : Ptr Operation) where
   -- the operands from the start up to the end, which is not among them, are forwarded along the edge with this number

@@ -15,8 +15,8 @@ use Rattle.builtin_ifaces.specs.Attributes.{held_under}
 use Rattle.builtin_ifaces.specs.Types.{IsFunctionType}
 use Rattle.builtin_ifaces.specs.declared.callees.CallOpCallable.{CallOpCallable}
 use Rattle.builtin_ifaces.specs.declared.callees.CallOpCallable.TheVariants.{Direct, Indirect}
-use Rattle.builtin_ifaces.specs.declared.dialect.CalleePlace.{CalleePlace}
-use Rattle.builtin_ifaces.specs.declared.dialect.CalleePlace.TheVariants.{Attribute, Operand}
+use Rattle.builtin_tables.specs.declared.dialect.CalleePlace.{CalleePlace}
+use Rattle.builtin_tables.specs.declared.dialect.CalleePlace.TheVariants.{Attribute, Operand}
 
 -- what is called: the function with a name, or a value
 pub data Callee : Type 0 where

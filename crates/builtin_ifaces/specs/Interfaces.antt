@@ -15,10 +15,10 @@ use Rattle.op_ifaces.specs.Interfaces.{Rule as RowsRule, is_told_by_rows, key_pa
 use Rattle.builtin_ifaces.specs.Attributes.{held_under}
 use Rattle.builtin_ifaces.specs.Branches.{BranchFits}
 use Rattle.builtin_ifaces.specs.Calls.{HasCalleeType}
-use Rattle.builtin_ifaces.specs.Keys.{symbol_name}
-use Rattle.builtin_ifaces.specs.Listed.{has_only_numbers}
+use Rattle.builtin_tables.specs.Keys.{symbol_name}
+use Rattle.builtin_tables.specs.Listed.{has_only_numbers}
 use Rattle.builtin_ifaces.specs.Segments.{HasSegments, SegmentPasses}
-use Rattle.builtin_ifaces.specs.declared.dialect.SuccessorLayout.{SuccessorLayout}
+use Rattle.builtin_tables.specs.declared.dialect.SuccessorLayout.{SuccessorLayout}
 
 -- a dialect, its types, and what it says of its attributes, its kinds of operations and its types
 module _ {D TypeKind AttrKind TypeBody Saved Location OpKind Attr TypeKey B : Type 0}

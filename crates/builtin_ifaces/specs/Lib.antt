@@ -1,9 +1,7 @@
-pub mod Keys
 pub mod Attributes
 pub mod Segments
 pub mod Branches
 pub mod Calls
 pub mod Symbols
 pub mod Types
-pub mod Listed
 pub mod Interfaces

@@ -12,7 +12,7 @@ use Rattle.op_ifaces.specs.Rows.{row_length, row_type}
 use Rattle.op_ifaces.specs.Rules.{AllPassIn}
 use Rattle.op_ifaces.specs.declared.rows.Row.TheVariants.{Operands}
 use Rattle.builtin_ifaces.specs.Attributes.{held_under}
-use Rattle.builtin_ifaces.specs.Keys.{segment_sizes}
+use Rattle.builtin_tables.specs.Keys.{segment_sizes}
 
 -- there is a segment with this number; it begins behind those before it, and ends where the next one begins. The end is not in it
 pub record IsSegmentAt (sizes : List ℕ) (s start end : ℕ) : Type 0 where

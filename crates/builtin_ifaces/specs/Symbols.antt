@@ -7,7 +7,7 @@ use Rattle.ir_program.specs.Program.{Program}
 use Rattle.ir_program.specs.declared.handles.Ptr.{Ptr}
 use Rattle.ir_program.specs.declared.handles.Operation.{Operation}
 use Rattle.ir_context.specs.declared.notes.OperationData.{OperationData}
-use Rattle.builtin_ifaces.specs.Keys.{symbol_name}
+use Rattle.builtin_tables.specs.Keys.{symbol_name}
 
 -- a dialect and its types; `held_identifier` says which identifier an attribute holds
 module _ {D TypeKind AttrKind TypeBody Saved Location OpKind Attr TypeKey : Type 0} (held_identifier : Attr → Option (List ℕ)) where

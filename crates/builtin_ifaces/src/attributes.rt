@@ -4,20 +4,11 @@ ghost use Rattle.ir_names.specs.Identifier.{text_of};
 ghost use Rattle.ir_program.specs.Program.{operation_at};
 ghost use Rattle.builtin_ifaces.specs.Attributes.{attribute_under, held_under};
 
-use crate::dialect::BuiltinDialect;
+use builtin_tables::BuiltinDialect;
 use ir_context::{Context, OperationCalls};
 use ir_names::{Identifier, TypeHandle};
 use ir_program::{Operation, Ptr};
 use ir_types::DialectTables;
-
-/// The keys of the attributes that interfaces read.
-pub mod keys {
-    /// An operation's name as a symbol.
-    pub const SYMBOL_NAME: &str = "builtin_sym_name";
-
-    /// How many operands each segment has.
-    pub const SEGMENT_SIZES: &str = "builtin_operand_segment_sizes";
-}
 
 /// The attribute of the operation under a key.
 pub(crate) fn attribute_under<'a, D: DialectTables>(

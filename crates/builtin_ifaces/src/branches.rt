@@ -7,9 +7,9 @@ ghost use Rattle.ir_context.specs.Kept.{kind_at};
 ghost use Rattle.op_ifaces.specs.Rules.{AcceptsExactly};
 ghost use Rattle.builtin_ifaces.specs.Branches.{AreSuccessorOperands, BranchFits, SuccessorFits, SuccessorsFit, ForwardsRange};
 
-use crate::dialect::{BuiltinDialect, SuccessorLayout};
 use crate::forwarding::{forwarded, types_fit};
 use crate::operand_ranges::operands_in;
+use builtin_tables::{BuiltinDialect, SuccessorLayout};
 use ir_context::{ArgumentCalls, Context, OperationCalls, SuccessorCalls};
 use ir_names::OpInterface;
 use ir_program::{BasicBlock, Operation, Ptr, Value};

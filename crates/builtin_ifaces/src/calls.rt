@@ -10,8 +10,8 @@ ghost use Rattle.builtin_ifaces.specs.Types.{IsFunctionType};
 
 use crate::attributes::{identifier_under, type_under};
 use crate::callees::CallOpCallable;
-use crate::dialect::{BuiltinDialect, CalleePlace};
 use crate::operand_ranges::operands_from;
+use builtin_tables::{BuiltinDialect, CalleePlace};
 use ir_context::{Context, OperandCalls, OperationCalls};
 use ir_names::{OpInterface, TypeHandle, TypeInterface};
 use ir_program::{Operation, Ptr, Value};

@@ -7,8 +7,8 @@ ghost use Rattle.op_ifaces.specs.declared.rows.Row.TheVariants.{Operands};
 ghost use Rattle.builtin_ifaces.specs.Branches.{ForwardsRange};
 ghost use Rattle.builtin_ifaces.specs.Segments.{HasSegment};
 
-use crate::dialect::{BuiltinDialect, SuccessorLayout};
 use crate::segments::{OperandSegmentInterface, find_segment};
+use builtin_tables::{BuiltinDialect, SuccessorLayout};
 use ir_context::{ArgumentCalls, Context, OperandCalls, TypeTable, TypedProgram, ValueCalls};
 use ir_program::{BasicBlock, Operation, Ptr};
 use std::ops::Range;

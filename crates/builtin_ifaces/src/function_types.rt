@@ -3,7 +3,7 @@ ghost use Rattle.std.specs.Prelude.{◌≡◌, IsOk, Some, option_map};
 ghost use Rattle.ir_names.specs.declared.interfaces.TypeInterface.TheVariants as interface;
 ghost use Rattle.builtin_ifaces.specs.Types.{IsFunctionType, signature_at};
 
-use crate::dialect::BuiltinDialect;
+use builtin_tables::BuiltinDialect;
 use ir_context::Context;
 use ir_names::{TypeHandle, TypeInterface};
 use ir_queries::TypeInterfaceMarker;

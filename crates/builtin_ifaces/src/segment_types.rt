@@ -11,8 +11,8 @@ ghost use Rattle.op_ifaces.specs.Rules.{AcceptsExactly, AllPassIn};
 ghost use Rattle.op_ifaces.specs.declared.rows.Row.TheVariants.{Operands};
 ghost use Rattle.builtin_ifaces.specs.Segments.{SegmentPasses};
 
-use crate::dialect::BuiltinDialect;
 use crate::segments::find_segment;
+use builtin_tables::BuiltinDialect;
 use ir_context::{Context, OperandCalls, ValueCalls};
 use ir_names::{OpInterface, TypeTest};
 use ir_program::{Operation, Ptr};

@@ -6,10 +6,10 @@ ghost use Rattle.ir_program.specs.Rows.{operands_at};
 ghost use Rattle.op_ifaces.specs.Rules.{AcceptsExactly};
 ghost use Rattle.builtin_ifaces.specs.Segments.{AreSegmentOperands, AreSegmentSizes, HasSegments, HasSegment, expected_segments, sizes_at};
 
-use crate::attributes::{keys, sizes_under};
-use crate::dialect::BuiltinDialect;
+use crate::attributes::sizes_under;
 use crate::operand_ranges::operands_in;
 use crate::sizes::{add_up, segment_at};
+use builtin_tables::{BuiltinDialect, keys};
 use ir_context::{Context, OperandCalls};
 use ir_names::OpInterface;
 use ir_program::{Operation, Ptr, Value};

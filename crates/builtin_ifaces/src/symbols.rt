@@ -6,11 +6,11 @@ ghost use Rattle.ir_program.specs.Edits.{EditsOperation, KeepsValues};
 ghost use Rattle.ir_program.specs.Program.{operation_at};
 ghost use Rattle.op_ifaces.specs.Rules.{AcceptsExactly};
 ghost use Rattle.builtin_ifaces.specs.Attributes.{held_under};
-ghost use Rattle.builtin_ifaces.specs.Keys.{symbol_name};
+ghost use Rattle.builtin_tables.specs.Keys.{symbol_name};
 ghost use Rattle.builtin_ifaces.specs.Symbols.{IsNamedBy, NamesSymbol};
 
-use crate::attributes::{identifier_under, keys};
-use crate::dialect::BuiltinDialect;
+use crate::attributes::identifier_under;
+use builtin_tables::{BuiltinDialect, keys};
 use ir_context::{Context, OperationData};
 use ir_names::{Identifier, OpInterface};
 use ir_program::{Operation, Ptr};

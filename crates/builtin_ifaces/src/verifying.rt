@@ -7,10 +7,10 @@ ghost use Rattle.builtin_ifaces.specs.Interfaces.{AllRules, MeetsInterfaces, Mee
 
 use crate::branches::{BranchOpInterface, BranchOpInterfaceVerifyErr};
 use crate::calls::{CallOpInterface, CallOpInterfaceErr};
-use crate::dialect::BuiltinDialect;
 use crate::segment_types::{SegmentNOfTypeError, expect_segment};
 use crate::segments::{OperandSegmentInterface, OperandSegmentInterfaceVerifyErr};
 use crate::symbols::{SymbolOpInterface, SymbolOpInterfaceErr};
+use builtin_tables::BuiltinDialect;
 use ir_context::{Context, OperationCalls};
 use ir_names::OpInterface;
 use ir_program::{Operation, Ptr};

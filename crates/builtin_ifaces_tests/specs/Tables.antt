@@ -7,11 +7,11 @@ use Rattle.ir_names.specs.declared.interfaces.OpInterface.TheVariants as interfa
 use Rattle.ir_names.specs.declared.interfaces.TypeInterface.{TypeInterface}
 use Rattle.ir_names.specs.declared.interfaces.TypeInterface.TheVariants.{FunctionType}
 use Rattle.ir_names.specs.declared.interfaces.TypeTest.TheVariants.{Interface}
-use Rattle.builtin_ifaces.specs.Listed.{lists_interface}
-use Rattle.builtin_ifaces.specs.declared.dialect.SuccessorLayout.{SuccessorLayout}
-use Rattle.builtin_ifaces.specs.declared.dialect.SuccessorLayout.TheVariants.{Trailing, Segments}
-use Rattle.builtin_ifaces.specs.declared.dialect.CalleePlace.{CalleePlace}
-use Rattle.builtin_ifaces.specs.declared.dialect.CalleePlace.TheVariants.{Attribute, Operand}
+use Rattle.builtin_tables.specs.Listed.{lists_interface}
+use Rattle.builtin_tables.specs.declared.dialect.SuccessorLayout.{SuccessorLayout}
+use Rattle.builtin_tables.specs.declared.dialect.SuccessorLayout.TheVariants.{Trailing, Segments}
+use Rattle.builtin_tables.specs.declared.dialect.CalleePlace.{CalleePlace}
+use Rattle.builtin_tables.specs.declared.dialect.CalleePlace.TheVariants.{Attribute, Operand}
 use Rattle.builtin_ifaces_tests.specs.declared.tiny.TinyAttr.{TinyAttr}
 use Rattle.builtin_ifaces_tests.specs.declared.tiny.TinyAttr.TheVariants as attrs
 use Rattle.builtin_ifaces_tests.specs.declared.tiny.TinyAttrKind.{TinyAttrKind}

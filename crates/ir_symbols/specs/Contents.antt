@@ -4,7 +4,7 @@ use Rattle.ir_context.specs.declared.notes.OperationData.{OperationData}
 use Rattle.ir_names.specs.Dictionary.{attribute_at}
 use Rattle.ir_names.specs.declared.interfaces.OpInterface.{OpInterface}
 use Rattle.ir_names.specs.declared.interfaces.OpInterface.TheVariants.{SymbolOp}
-use Rattle.builtin_ifaces.specs.Keys as keys
+use Rattle.builtin_tables.specs.Keys as keys
 
 -- the identifier that an operation of a kind of symbols holds under the key for their names; `has` says which interfaces a
 -- kind implements, and `held` which identifier an attribute holds

@@ -1,6 +1,6 @@
 //! Symbols among the operations of a context.
 use crate::payload::SymbolPayload;
-use builtin_ifaces::{BuiltinDialect, keys};
+use builtin_tables::{BuiltinDialect, keys};
 use ir_context::OperationData;
 use ir_names::OpInterface;
 

@@ -7,8 +7,8 @@ use Rattle.std.proofs.lemmas.Slice.Eq.{bytes_eq-Decides}
 use Rattle.ir_base.specs.declared.types.TypeHandle.{TypeHandle}
 use Rattle.ir_names.specs.Identifier.{text_of}
 use Rattle.ir_names.specs.declared.interfaces.TypeInterface.TheVariants.{FunctionType}
-use Rattle.builtin_ifaces.specs.declared.dialect.SuccessorLayout.{SuccessorLayout}
-use Rattle.builtin_ifaces.specs.declared.dialect.SuccessorLayout.TheVariants.{Trailing, Segments}
+use Rattle.builtin_tables.specs.declared.dialect.SuccessorLayout.{SuccessorLayout}
+use Rattle.builtin_tables.specs.declared.dialect.SuccessorLayout.TheVariants.{Trailing, Segments}
 use Rattle.kit_ops.specs.Kinds.{type_kind, type_implements}
 use Rattle.kit_ops.specs.declared.attributes.KitAttr.{KitAttr}
 use Rattle.kit_ops.specs.declared.attributes.KitAttr.TheVariants as attrs

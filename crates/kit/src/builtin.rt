@@ -1,12 +1,12 @@
 //! What interfaces ask of `kit`.
 use crate::dialect::Kit;
-use builtin_ifaces::{BuiltinDialect, CalleePlace, SuccessorLayout};
+use builtin_tables::{BuiltinDialect, CalleePlace, SuccessorLayout};
 use ir_names::{AttributeDict, Identifier, OpInterface, TypeHandle};
 use kit_ops::{KitAttr, KitOp, KitType, keys};
 
 impl BuiltinDialect for Kit {
     ghost use Rattle.std.specs.Prelude.{refl};
-    ghost use Rattle.builtin_ifaces.specs.declared.dialect.CalleePlace.TheVariants.{Attribute};
+    ghost use Rattle.builtin_tables.specs.declared.dialect.CalleePlace.TheVariants.{Attribute};
     ghost use Rattle.kit_ops.specs.Keys.{callee, callee_type};
     ghost use Rattle.kit_ops.specs.Table.{row_of};
     ghost use Rattle.kit.specs.Builtin as builtin;

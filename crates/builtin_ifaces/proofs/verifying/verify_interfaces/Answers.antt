@@ -1,7 +1,7 @@
 use Rattle.std.proofs.Common.{◌≡◌, true, List, slice_get, sym, ap, subst, ◌∙◌}
 use Rattle.ir_names.specs.declared.interfaces.OpInterface.{OpInterface}
 use Rattle.builtin_ifaces.specs.Interfaces.{AllRules}
-use Rattle.builtin_ifaces.specs.Listed.{lists_interface}
+use Rattle.builtin_tables.specs.Listed.{lists_interface}
 use Rattle.builtin_ifaces.proofs.ListedLemmas.{listed_at}
 use Rattle.builtin_ifaces.proofs.verifying.verify_interfaces.Goals as goal
 

@@ -1,7 +1,7 @@
 use Rattle.std.proofs.Common.{sym, subst}
 use Rattle.ir_program.specs.Rows.{successors_at}
 use Rattle.builtin_ifaces.specs.Branches.{ForwardsRange}
-use Rattle.builtin_ifaces.specs.declared.dialect.SuccessorLayout.{SuccessorLayout}
+use Rattle.builtin_tables.specs.declared.dialect.SuccessorLayout.{SuccessorLayout}
 use Rattle.builtin_ifaces.proofs.RangeLemmas.{item_there}
 use Rattle.builtin_ifaces.proofs.branches.BranchOpInterface.successor_operand_range.Goals as goal
 

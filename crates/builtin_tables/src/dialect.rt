@@ -4,7 +4,7 @@ ghost use Rattle.ir_base.specs.declared.types.TypeHandle.{TypeHandle};
 ghost use Rattle.ir_names.specs.Identifier.{text_of};
 ghost use Rattle.ir_names.specs.declared.interfaces.OpInterface.{OpInterface};
 ghost use Rattle.ir_names.specs.declared.interfaces.TypeInterface.TheVariants.{FunctionType};
-ghost use Rattle.builtin_ifaces.specs.Listed.{lists_interface};
+ghost use Rattle.builtin_tables.specs.Listed.{lists_interface};
 
 use ir_names::{AttributeDict, Identifier, OpInterface, TypeHandle};
 use ir_types::DialectTables;
@@ -38,8 +38,8 @@ pub enum CalleePlace {
 /// Of a kind of operations only that is asked which its interfaces need: `successor_layout` of branches, `callee_place` and
 /// its keys of calls, and so on. What is said of other kinds is never looked at.
 pub trait BuiltinDialect: DialectTables + Sized {
-    ghost use Rattle.builtin_ifaces.specs.declared.dialect.CalleePlace.{CalleePlace};
-    ghost use Rattle.builtin_ifaces.specs.declared.dialect.SuccessorLayout.{SuccessorLayout};
+    ghost use Rattle.builtin_tables.specs.declared.dialect.CalleePlace.{CalleePlace};
+    ghost use Rattle.builtin_tables.specs.declared.dialect.SuccessorLayout.{SuccessorLayout};
 
     /// The text of the identifier that an attribute holds, if it holds one.
     ghost held_identifier: { Self.Attr → Option (List ℕ) };
