@@ -44,7 +44,7 @@ SaidAreClosed = (numbering : Numbering) (s : Seen KitOp KitAttr KitType) (root :
     → Says kit_language cs tree → StandsForTexts says (Named numbering) s root tree → IsClosedTree kit_language tree × IsNumbered tree
 
 -- an operation stands for the tree of texts that it holds
-holding : (text : Entity ℕ) (s : KitContext) (root : Ptr Operation) (h : HoldsText text s root) → StandsAs text s root h.tree
+pub holding : (text : Entity ℕ) (s : KitContext) (root : Ptr Operation) (h : HoldsText text s root) → StandsAs text s root h.tree
 holding text s root h = record {
   numbering = h.numbering;
   distinct = h.distinct;
@@ -55,11 +55,11 @@ holding text s root h = record {
 }
 
 -- what all names have
-no_number : List ℕ → ℕ
+pub no_number : List ℕ → ℕ
 no_number text = 0
 
 -- what passes leave of a module is what they make of its tree
-left : (passes : List KitPass) (before : KitContext) (root : Ptr Operation) (text : List ℕ) (t : Entity ℕ)
+pub left : (passes : List KitPass) (before : KitContext) (root : Ptr Operation) (text : List ℕ) (t : Entity ℕ)
     (h : HoldsText t before root) (g : PassesGive passes before root text)
     → IsTreeAfter {N = by_handle} (key_at before.types) no_number (map pass_of passes) h.tree g.written.holds.tree
 left passes before root text t h g =
@@ -68,11 +68,11 @@ left passes before root text t h g =
     (one_tree g.after.program root made.0 g.written.holds.tree made.1 g.written.holds.is_tree) (made.2 no_number)
 
 -- each of these trees is closed
-abbrev EachClosed : List (Entity ℕ) → Type 0
+abbrev pub EachClosed : List (Entity ℕ) → Type 0
 EachClosed [] = Unit {0}
 EachClosed (x ∷ xs) = IsClosedTree kit_language x × EachClosed xs
 
-one_closed : (xs : List (Entity ℕ)) → EachClosed xs → (a : Entity ℕ) → Has a xs → IsClosedTree kit_language a
+pub one_closed : (xs : List (Entity ℕ)) → EachClosed xs → (a : Entity ℕ) → Has a xs → IsClosedTree kit_language a
 one_closed [] c a h = absurd h
 one_closed (x ∷ xs) c a (inl e) = subst (IsClosedTree kit_language) (sym e) c.0
 one_closed (x ∷ xs) c a (inr h) = one_closed xs c.1 a h

@@ -1,5 +1,6 @@
 pub mod FaultLemmas
 pub mod CutLemmas
+pub mod UnchangedLemmas
 pub mod ExecutionLemmas
 pub mod ModuleLemmas
 pub mod RunLemmas

@@ -96,6 +96,16 @@ pub fn goal()
         → ArePassed passes t u p q → Goal (map pass_of passes) p q }
 {}
 
+/// Without passes the text that `run` writes says the module that its input says: one tree but for labels.
+pub fn unchanged()
+    ensures { (bytes text : List ℕ) → RunGives [] bytes text → HaveOneModule bytes text }
+{
+    trees_of_texts_are_closed::<Kit>();
+    kit_can_print();
+    types_are_numbered();
+    texts_say_the_same();
+}
+
 /// Constant propagation on a module that keeps the rules leaves known what was known: the most precise facts of each
 /// function, of which there are some, say of each old value and block what they said before. The same is so of trees.
 pub fn facts_kept()
