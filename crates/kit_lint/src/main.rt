@@ -1,4 +1,5 @@
-//! A lint tool on the library: it reads a module of `kit` and names its functions that no call of another function names.
+//! A lint tool on the library: it reads a module of `kit`, counts its operations by kind, and names its functions that no call
+//! elsewhere names.
 #![tactic(auto)]
 
 ghost use Rattle.std.specs.Prelude.{◌≡◌, false};
@@ -8,8 +9,8 @@ use builtin_dialect::{
     CallOpCallable, CallOpInterface, SymbolOpInterface, SymbolPayload, WALKCONFIG_PREORDER_FORWARD,
     WalkResult, interruptible, lookup_symbol, op_impls, walk_advance, walk_break,
 };
-use indexmap::IndexSet;
-use ir_core::{IRNode, Operation, OperationCalls, Ptr};
+use indexmap::{IndexMap, IndexSet};
+use ir_core::{IRNode, OpId, Operation, OperationCalls, Ptr};
 use irkit_driver::{Context, Kit, Refusal, Watched, let_go, load};
 use std::alloc::{AllocError, Global};
 use std::io::{Read, Write};
@@ -19,6 +20,8 @@ use std::process::ExitCode;
 /// What a walk over a module finds.
 #[derive(Drop)]
 struct Survey {
+    /// How many operations there are of each kind.
+    kinds: IndexMap<OpId, usize>,
     /// The functions, in the order of the text.
     functions: Vec<Ptr<Operation>>,
     /// Those of them that a call elsewhere names.
@@ -42,6 +45,9 @@ impl Survey {
         if !op.is_live(ctx) {
             return Ok(());
         }
+        let kind = op.get_opid(ctx);
+        let count = self.kinds.get(&kind).copied().unwrap_or(0);
+        self.kinds.insert(kind, count.saturating_add(1))?;
         if op_impls::<Kit, SymbolOpInterface>(op.kind(ctx))
             && !ctx.program().payload(op).is_symbol_table()
         {
@@ -67,52 +73,38 @@ impl Survey {
     }
 }
 
-/// The functions below an operation that no call elsewhere names, in the order of the text.
-fn never_called(
+/// What a walk over an operation and all that stands in it finds.
+fn look_over(
     alloc: Global,
     ctx: &Context<Kit>,
     root: Ptr<Operation>,
-) -> Result<Vec<Ptr<Operation>>, AllocError> {
-    let mut found = Vec::new(alloc);
-    if !root.is_live(ctx) {
-        return Ok(found);
-    }
-    let mut survey = Survey {
+) -> Result<Survey, AllocError> {
+    let mut found = Survey {
+        kinds: IndexMap::new(alloc),
         functions: Vec::new(alloc),
         called: IndexSet::new(alloc),
     };
-    let visit = |ctx: &Context<Kit>, survey: &mut Survey, node: IRNode| survey.visit(ctx, node);
-    let walked = interruptible::immutable::walk_op(
-        ctx,
-        &mut survey,
-        &WALKCONFIG_PREORDER_FORWARD,
-        root,
-        visit,
-    );
-    if let ControlFlow::Break(fault) = walked {
-        return Err(fault);
-    }
-    for function in &survey.functions {
-        if !survey.called.contains(function) {
-            found.push(*function)?;
+    if root.is_live(ctx) {
+        let visit = |ctx: &Context<Kit>, found: &mut Survey, node: IRNode| found.visit(ctx, node);
+        let config = WALKCONFIG_PREORDER_FORWARD;
+        let walked = interruptible::immutable::walk_op(ctx, &mut found, &config, root, visit);
+        if let ControlFlow::Break(fault) = walked {
+            return Err(fault);
         }
     }
     Ok(found)
 }
 
-/// A line for each of these functions.
-fn report(
-    alloc: Global,
-    ctx: &Context<Kit>,
-    functions: &[Ptr<Operation>],
-) -> Result<String, AllocError> {
+/// A line for each kind of operations, and one for each function that no call elsewhere names.
+fn report(alloc: Global, ctx: &Context<Kit>, survey: &Survey) -> Result<String, AllocError> {
     let mut text = String::new(alloc);
-    for function in functions {
-        if function.is_live(ctx) {
+    for (kind, count) in &survey.kinds {
+        writeln!(text, "{count} {kind}")?;
+    }
+    for function in &survey.functions {
+        if function.is_live(ctx) && !survey.called.contains(function) {
             if let Some(name) = ctx.program().payload(*function).symbol_name() {
-                text.push_str("no call of @")?;
-                text.push_str(name)?;
-                text.push('\n')?;
+                writeln!(text, "no call of @{name}")?;
             }
         }
     }
@@ -128,8 +120,8 @@ fn linted<R: Read>(
     requires { has_failed reader.old ≡ false }
 {
     let root = load(alloc, ctx, reader)?;
-    let functions = never_called(alloc, ctx, root)?;
-    Ok(report(alloc, ctx, &functions)?)
+    let found = look_over(alloc, ctx, root)?;
+    Ok(report(alloc, ctx, &found)?)
 }
 
 fn main(rt: HostRuntime) -> ExitCode {
