@@ -7,3 +7,5 @@ mod errors;
 mod locations;
 #[cfg(test)]
 mod streams;
+#[cfg(test)]
+mod writers;
