@@ -5,16 +5,37 @@
 //! fault of the text with its line and column ([`TextFault`]); [`print_module`] writes one, which is read again. [`print_root`]
 //! writes any operation.
 //!
+//! A dialect's own texts are printed by [`Printable`] into a [`TextWriter`], and read by small parsers on a [`StateStream`]. What goes
+//! wrong is an [`Error`] about a [`Location`]. [`check_format`] tells whether the next token decides each step of reading by a format.
+//!
 //! Programs, contexts and their calls are in `ir_core`.
 #![tactic(auto)]
 
 pub use ir_characters::Characters;
+pub use ir_errors::{Error, ErrorKind, Result, StringError};
+pub use ir_format_checks::{BadFormat, FormatSort, check_format};
 pub use ir_formats::PartTable;
+pub use ir_locations::{Location, Source};
 pub use ir_print::{Directive, LeafSort, LeafValue, Number, Part, ValueSort};
 pub use ir_tokens::{ScopeCause, TextFault};
 pub use text_dialect::{
     DialectGrammar, MakeFault, OperationDraft, ReadDialect, TextDialect, grammar_of, resolve,
     table_of,
 };
+pub use text_lists::{
+    delimited_list_parser, list_parser, list_with_sep_parser, zero_or_more_parser,
+};
 pub use text_printing::{print_module, print_root};
 pub use text_reading::{discard, top_level_parse};
+pub use text_streams::{
+    FromStrRadix, ParseFault, ParseResult, Position, StateStream, StreamLocation, TextError,
+    hex_int_parse, int_parse, number_as_string_parse, parse_from_str, quoted_string_parse, spaced,
+    state_stream_from_iterator,
+};
+pub use text_writers::{
+    Displayable, EnclosedText, InRegion, IndentGuard, IndentedNewliner, IterWithSep, IterWithSepBy,
+    ListSeparator, ListWithSep, Printable, PrinterFn, QuotedText, RegionDepthGuard,
+    RegionPrintDepthLimit, State, TextWriter, disp, enclosed, fmt_indented_newline, fmt_iter,
+    in_region, indented_nl, iter_with_sep, iter_with_sep_by, list_with_sep, printable_from_fn,
+    quoted,
+};

@@ -4,6 +4,10 @@
 #[cfg(test)]
 mod errors;
 #[cfg(test)]
+mod lists;
+#[cfg(test)]
 mod locations;
 #[cfg(test)]
 mod streams;
+#[cfg(test)]
+mod writers;

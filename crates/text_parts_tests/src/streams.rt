@@ -4,10 +4,11 @@ use std::alloc::Global;
 use std::process::Abort;
 use std::test::Fail;
 use text_streams::{
-    ListSeparator, ParseFault, StateStream, StreamLocation, TextError, enclosed, hex_int_parse,
-    int_parse, list_with_sep, number_as_string_parse, parse_from_str, quoted, quoted_string_parse,
-    spaced, state_stream_from_iterator,
+    ParseFault, StateStream, StreamLocation, TextError, hex_int_parse, int_parse,
+    number_as_string_parse, parse_from_str, quoted_string_parse, spaced,
+    state_stream_from_iterator,
 };
+use text_writers::{Printable, State, quoted};
 
 /// A syntax fault on the first line, before which nothing was read.
 fn syntax_at(column: u64) -> ParseFault {
@@ -67,7 +68,7 @@ fn numbers_leave_what_follows(rt: HostRuntime) -> Result<(), Fail> {
 #[test]
 fn quoted_texts_are_read_back(rt: HostRuntime) -> Result<(), Fail> {
     let mut text = String::new(rt.alloc());
-    quoted(&mut text, "a \"b\" \\ é\n")?;
+    quoted("a \"b\" \\ é\n").fmt(&(), &mut State::new(), &mut text)?;
     assert_eq!(rt; text.as_str(), "\"a \\\"b\\\" \\\\ é\n\"");
     text.push_str("rest")?;
     let mut stream = StateStream::new(text.as_str(), ());
@@ -98,21 +99,5 @@ fn characters_of_an_iterator_are_a_text(rt: HostRuntime) -> Result<(), Fail> {
     let mut stream = state_stream_from_iterator(&mut text, "12,".chars(), ())?;
     let number: Result<u64, ParseFault> = int_parse(rt.alloc(), &mut stream);
     assert_eq!(rt; number, Ok(12));
-    Ok(())
-}
-
-#[test]
-fn lists_are_separated(rt: HostRuntime) -> Result<(), Fail> {
-    let mut list = String::new(rt.alloc());
-    list_with_sep(&mut list, &["a", "b", "c"], ListSeparator::CharSpace(','))?;
-    let mut text = String::new(rt.alloc());
-    enclosed(&mut text, "[", "]", list.as_str())?;
-    assert_eq!(rt; text.as_str(), "[a, b, c]");
-    let mut lines = String::new(rt.alloc());
-    list_with_sep(&mut lines, &["a", "b"], ListSeparator::CharNewline(';'))?;
-    list_with_sep(&mut lines, &["c", "d"], ListSeparator::Newline)?;
-    list_with_sep(&mut lines, &["e", "f"], ListSeparator::Char('|'))?;
-    list_with_sep(&mut lines, &["g", "h"], ListSeparator::None)?;
-    assert_eq!(rt; lines.as_str(), "a;\nbc\nde|fgh");
     Ok(())
 }

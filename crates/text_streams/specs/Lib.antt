@@ -3,6 +3,5 @@ pub mod Numbers
 pub mod Positions
 pub mod Quotes
 pub mod Reading
-pub mod Separators
 pub mod Spaces
 pub mod Streams

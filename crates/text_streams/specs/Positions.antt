@@ -1,10 +1,14 @@
 -- A place in a text, and the characters from there on.
-use Rattle.std.specs.Prelude.{ℕ, ◌+◌, ◌≡◌, ◌==◌, List, ◌++◌, chars, fold, if◌then◌else◌}
+use Rattle.std.specs.Prelude.{ℕ, ◌+◌, ◌≡◌, ◌==◌, List, ◌++◌, chars, length, fold, if◌then◌else◌}
 use Rattle.text_streams.specs.declared.position.Position.{Position}
 
 -- the characters from a place on
 abbrev pub left : Position → List ℕ
 left position = chars position.rest.now
+
+-- how many bytes these are
+abbrev pub bytes_left : Position → ℕ
+bytes_left position = length position.rest.now
 
 -- its line and column, each from 1
 abbrev pub place : Position → ℕ × ℕ

@@ -5,16 +5,12 @@ mod faults;
 mod numbers;
 mod parsers;
 mod position;
-mod printing;
 mod quotes;
 mod radix;
-mod separators;
 mod stream;
 
 pub use faults::{ParseFault, ParseResult, TextError};
 pub use parsers::{hex_int_parse, int_parse, number_as_string_parse, quoted_string_parse, spaced};
 pub use position::Position;
-pub use printing::quoted;
 pub use radix::FromStrRadix;
-pub use separators::{ListSeparator, enclosed, list_with_sep};
 pub use stream::{StateStream, StreamLocation, parse_from_str, state_stream_from_iterator};

@@ -14,7 +14,7 @@ pub struct Position<'a> {
 impl<'a> Position<'a> {
     ghost use Rattle.std.specs.List.{take_while};
     ghost use Rattle.std.specs.Char.{is_whitespace};
-    ghost use Rattle.text_streams.specs.Positions.{left, place, behind, LiesBehind};
+    ghost use Rattle.text_streams.specs.Positions.{left, bytes_left, place, behind, LiesBehind};
 
     /// The start of a text.
     pub fn start(text: &'a str) -> Position<'a>
@@ -41,6 +41,13 @@ impl<'a> Position<'a> {
         ensures { result ≡ (place self.entry).1 }
     {
         self.column
+    }
+
+    /// How many bytes are left from there on.
+    pub fn bytes_left(self) -> usize
+        ensures { result ≡ bytes_left self.entry }
+    {
+        self.rest.len()
     }
 
     /// The character there, and the place behind it.

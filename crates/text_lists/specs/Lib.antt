@@ -1,0 +1,5 @@
+pub mod Delimited
+pub mod Lists
+pub mod Members
+pub mod Repeated
+pub mod Signs

@@ -1,0 +1,5 @@
+pub mod Appending
+pub mod Printers
+pub mod Regions
+pub mod Separators
+pub mod States
