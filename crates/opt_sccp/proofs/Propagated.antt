@@ -40,7 +40,13 @@ module _ {O B A : Type 0} (d : Dialect (in_program O B) A) (c : Program O B) (op
 
   pub nothing_in : PutsList d c c op [] → (t : ProgramTree O B) → StandsFor c op t → PropagatesPart d c c op t
   nothing_in puts t stands =
-      record { made = made_of []; below = λ v a h. cc; gets = λ k best v a h. cc; puts = puts t stands }
+      record {
+        made = made_of [];
+        below = λ v a h. cc;
+        gets = λ k best v a h. cc;
+        made_by = λ v a h. cc;
+        puts = puts t stands;
+      }
 
   pub unchanged_in : (ms : List (Made A)) → ms ≡ [] → IsDecided d c op ms → PutsList d c c op [] → (t : ProgramTree O B) → StandsFor c op t → Propagates d c c op Unchanged t
   unchanged_in ms e decided puts t stands =
@@ -70,5 +76,7 @@ module _ {O B A : Type 0} (d : Dialect (in_program O B) A) (c : Program O B) (op
           gets = λ k best v a h.
               let has = has_take ms came.0 (record { value = v; constant = a }) (found_entry (take came.0 ms) v a h) in
               subst (λ f. Gets d t f v a) (best_unique d t i.facts k i.best best) (i.is_made.gets v a (decided.one (record { value = v; constant = a }) has));
+          made_by = λ v a h. decided.list.made_by (record { value = v; constant = a })
+              (has_take ms came.0 (record { value = v; constant = a }) (found_entry (take came.0 ms) v a h));
           puts = came.2 t stands;
         }

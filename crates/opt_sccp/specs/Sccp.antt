@@ -1,5 +1,5 @@
 -- Constant propagation of a program.
-use Rattle.std.specs.Prelude.{◌≡◌, ◌↔◌, ◌⊎◌, ℕ, ◌+◌, List, Option, Some, None, length}
+use Rattle.std.specs.Prelude.{◌≡◌, ◌↔◌, ◌⊎◌, ℕ, ◌+◌, List, Option, Some, None, IsSome, length}
 use Rattle.ir_program.specs.Program.{Program}
 use Rattle.ir_program.specs.declared.handles.Ptr.{Ptr}
 use Rattle.ir_program.specs.declared.handles.Operation.{Operation}
@@ -57,6 +57,8 @@ pub record PropagatesPart {O B A : Type 0} (d : Dialect (in_program O B) A) (old
   -- each value that gets a constant is defined below the operation
   pub below : (v : Value) (a : A) → made v ≡ Some a → IsDefinedBelow old op v
   pub gets : (k : Facts by_handle A) → IsMostPrecise d t k → (v : Value) (a : A) → made v ≡ Some a → Gets d t k v a
+  -- an operation of the dialect makes each constant
+  pub made_by : (v : Value) (a : A) → made v ≡ Some a → IsSome (d.constant a)
   pub puts : PutsConstants d old new op made t
 
 -- something can't grow, or an operand lacks
