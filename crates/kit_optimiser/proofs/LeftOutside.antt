@@ -33,9 +33,9 @@ use Rattle.opt_trees.specs.Sccp.{IsArgument, IsResult, used_as}
 use Rattle.opt_trees.specs.Simplify.{Follows, all_of, decide, goes_on, keep, stops}
 use Rattle.opt_trees.proofs.Defined.{argument_defined}
 use Rattle.kit.specs.Meaning.{KitOperation, KitBlock, kit}
-use Rattle.kit_ruled_passes.proofs.InTrees.{Includes, includes_both}
+use Rattle.pass_outside.proofs.InTrees.{Includes, includes_both}
 use Rattle.kit_ruled_passes.proofs.LeftApart.{LeavesApart, something}
-use Rattle.kit_ruled_passes.proofs.PassIncludes.{decided_less, kept_less}
+use Rattle.pass_outside.proofs.PassIncludes.{decided_less, kept_less}
 use Rattle.kit_ops.specs.declared.attributes.IntegerAttr.{IntegerAttr}
 use Rattle.kit_views.proofs.Lists.{has_get}
 use Rattle.kit_optimiser.specs.Outside.{IsOutside, KeepsRest, LeavesRest, StaysOutside}

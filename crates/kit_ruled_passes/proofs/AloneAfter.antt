@@ -20,7 +20,7 @@ use Rattle.kit.specs.Meaning.{KitOperation, KitBlock, kit}
 use Rattle.kit_ops.specs.declared.attributes.IntegerAttr.{IntegerAttr}
 use Rattle.kit_ruled_passes.specs.Scopes.{Part}
 use Rattle.kit_ruled_passes.proofs.ScopesAfter.{map_same}
-use Rattle.kit_ruled_passes.proofs.InTrees.{HasOperation, same_some}
+use Rattle.pass_outside.proofs.InTrees.{HasOperation, same_some}
 
 -- the definitions of a tree
 abbrev pub Definitions : Type 0

@@ -28,7 +28,7 @@ use Rattle.opt_trees.specs.Occurrences.{Has}
 use Rattle.kit.specs.Meaning.{KitOperation, KitBlock}
 use Rattle.kit_ruled_views.specs.Functions.{IsSelfContained}
 use Rattle.kit_ruled_passes.specs.Entering.{IsEnteredNowhere}
-use Rattle.kit_ruled_passes.proofs.InTrees.{HasOperation, operation_held, operation_inside}
+use Rattle.pass_outside.proofs.InTrees.{HasOperation, operation_held, operation_inside}
 
 -- something in a row stands in what is there
 pub in_row : {X Y : Type 0} (f : X → List Y) (o : Option X) (k : ℕ) (y : Y)

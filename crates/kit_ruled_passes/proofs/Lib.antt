@@ -17,14 +17,11 @@ pub mod FittingEdges
 pub mod Alone
 pub mod LiveValues
 pub mod PutNames
-pub mod InTrees
 pub mod AloneAfter
 pub mod HomesAfter
 pub mod NoLiveUse
 pub mod RootSurroundings
 pub mod LeftApart
-pub mod PassIncludes
-pub mod ConstantsPut
 pub mod PropagatedApart
 pub mod RemovedApart
 pub mod SimplifiedApart

@@ -43,7 +43,7 @@ use Rattle.kit_ruled_passes.proofs.Scopes.{Homed}
 use Rattle.kit_ruled_passes.proofs.AloneAfter.{SaysHead, SaysIn, says_tree, tree_says, of_view, to_view}
 use Rattle.kit_ruled_passes.proofs.AloneAfter.{says_decided, says_renamed, says_renamed_head}
 use Rattle.kit_ruled_passes.proofs.HomesAfter.{homed_decided, homed_renamed, homed_cut}
-use Rattle.kit_ruled_passes.proofs.InTrees.{has_or_not, same_some, operation_reached}
+use Rattle.pass_outside.proofs.InTrees.{has_or_not, same_some, operation_reached}
 
 module _ (old new : KitProgram) (root : Ptr Operation) (t : KitTree) (stands : StandsFor old root t)
     (d : DecidesBranches kit old new root t) where

@@ -21,11 +21,11 @@ use Rattle.opt_trees.specs.Occurrences.{Has}
 use Rattle.opt_trees.specs.Sccp.{Old, New, Gets, IsResult, IsArgument, put, put_root, used_as}
 use Rattle.kit.specs.Meaning.{KitOperation, KitBlock, kit}
 use Rattle.kit_ops.specs.declared.attributes.IntegerAttr.{IntegerAttr}
-use Rattle.kit_ruled_passes.proofs.ConstantsPut.{put_from, put_block, put_stays, put_new}
-use Rattle.kit_ruled_passes.proofs.InTrees.{HasOperation, has_or_not, operation_reached, block_reached, operation_inside}
-use Rattle.kit_ruled_passes.proofs.InTrees.{block_inside, same_some}
+use Rattle.pass_outside.proofs.ConstantsPut.{put_from, put_block, put_stays, put_new}
+use Rattle.pass_outside.proofs.InTrees.{HasOperation, has_or_not, operation_reached, block_reached, operation_inside}
+use Rattle.pass_outside.proofs.InTrees.{block_inside, same_some}
 use Rattle.kit_ruled_passes.proofs.LeftApart.{IsKnownBefore, StoodOutside, LeavesApart, below_root}
-use Rattle.kit_ruled_passes.proofs.PassIncludes.{renamed_operation, renamed_block, rename_operation}
+use Rattle.pass_outside.proofs.PassIncludes.{renamed_operation, renamed_block, rename_operation}
 
 module _ (old new : KitProgram) (root : Ptr Operation) (known : IsKnownBefore old root) (t : KitTree)
     (stands : StandsFor old root t) (answer : IRStatus) (done : Propagates kit old new root answer t) where

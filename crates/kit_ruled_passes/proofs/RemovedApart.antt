@@ -13,9 +13,9 @@ use Rattle.opt_inside.specs.Occurring.{IsBelowRoot, IsBlockBelow}
 use Rattle.opt_trees.specs.Dce.{thin}
 use Rattle.opt_trees.specs.Occurrences.{Has}
 use Rattle.kit.specs.Meaning.{KitOperation, kit}
-use Rattle.kit_ruled_passes.proofs.InTrees.{operation_reached, block_reached, block_inside, same_some}
+use Rattle.pass_outside.proofs.InTrees.{operation_reached, block_reached, block_inside, same_some}
 use Rattle.kit_ruled_passes.proofs.LeftApart.{IsKnownBefore, StoodOutside, LeavesApart, below_root, something}
-use Rattle.kit_ruled_passes.proofs.PassIncludes.{thinned_less}
+use Rattle.pass_outside.proofs.PassIncludes.{thinned_less}
 
 module _ (old new : KitProgram) (root : Ptr Operation) (known : IsKnownBefore old root) (t : KitTree)
     (stands : StandsFor old root t) (done : MakesDce kit old new root t) where

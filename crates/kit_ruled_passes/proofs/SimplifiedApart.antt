@@ -20,10 +20,10 @@ use Rattle.opt_trees.proofs.Defined.{argument_defined}
 use Rattle.ir_opts.specs.SimplifiedTree.{SimplifiesTree}
 use Rattle.kit.specs.Meaning.{KitOperation, kit}
 use Rattle.kit_views.proofs.Lists.{has_get}
-use Rattle.kit_ruled_passes.proofs.InTrees.{Includes, includes_both, operation_reached, block_reached, operation_held}
-use Rattle.kit_ruled_passes.proofs.InTrees.{block_inside, same_some}
+use Rattle.pass_outside.proofs.InTrees.{Includes, includes_both, operation_reached, block_reached, operation_held}
+use Rattle.pass_outside.proofs.InTrees.{block_inside, same_some}
 use Rattle.kit_ruled_passes.proofs.LeftApart.{IsKnownBefore, StoodOutside, LeavesApart, below_root, something}
-use Rattle.kit_ruled_passes.proofs.PassIncludes.{decided_less, kept_less, joined_less, renamed_operation, renamed_block}
+use Rattle.pass_outside.proofs.PassIncludes.{decided_less, kept_less, joined_less, renamed_operation, renamed_block}
 
 -- a value that is followed anywhere is an argument of a block of the tree
 followed : (p : StartingRegions by_handle) (r : KitTree) (v x : Value) → Follows kit p r v x

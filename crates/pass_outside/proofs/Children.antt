@@ -13,26 +13,14 @@ use Rattle.ir_program.specs.declared.handles.Region.{Region}
 use Rattle.ir_program.specs.declared.handles.Value.{Value}
 use Rattle.ir_trees.proofs.Members.{has_at}
 use Rattle.opt_inside.specs.Occurring.{IsDefinedBelow}
-use Rattle.opt_inside.proofs.Around.{HasLists, inside_both, around_block, around_region}
+use Rattle.opt_inside.proofs.Around.{inside_both, around_block}
 use Rattle.pass_outside.specs.Nested.{IsChild, nested_in, operations_of_region}
 use Rattle.pass_outside.specs.Outside.{IsLiveOutside, LeavesOutside}
 use Rattle.pass_outside.specs.Sound.{IsSound}
 use Rattle.pass_outside.proofs.Lists.{has_contained, from_joined, joined_same}
-use Rattle.pass_outside.proofs.Outside.{some_of}
+use Rattle.pass_outside.proofs.Outside.{some_of, has_lists, region_out_of}
 
 module _ {O B : Type 0} where
-  has_lists : (c : Program O B) → IsSound c → HasLists c
-  has_lists c s = record {
-    operations_once = s.operations_once;
-    blocks_once = s.blocks_once;
-    regions_once = s.regions_once;
-    operations = s.operations;
-    blocks = s.blocks;
-    regions = s.regions;
-    operation_apart = s.operation_apart;
-    block_apart = s.block_apart;
-  }
-
   -- the nested operations are children
   pub child_of : (c : Program O B) (p : Ptr Operation) → IsSound c → (q : Ptr Operation) → Contains (nested_in c p) q → IsChild c p q
   child_of c p s q listed =
@@ -55,10 +43,9 @@ module _ {O B : Type 0} where
   same_operations c d b v was is =
       ap (λ (o : Option (BlockView B)). unwrap_or (option_map (λ (x : BlockView B). x.operations) o) []) (is ∙ sym was)
 
-  same_blocks : (c d : Program O B) (r : Ptr Region) (v : RegionView) → region_at c r ≡ Some v → region_at d r ≡ Some v
-      → blocks_in d r ≡ blocks_in c r
-  same_blocks c d r v was is =
-      ap (λ (o : Option RegionView). unwrap_or (option_map (λ (x : RegionView). x.blocks) o) []) (is ∙ sym was)
+  same_blocks : (c d : Program O B) (r : Ptr Region) → region_at d r ≡ region_at c r → blocks_in d r ≡ blocks_in c r
+  same_blocks c d r same =
+      ap (λ (o : Option RegionView). unwrap_or (option_map (λ (x : RegionView). x.blocks) o) []) same
 
   same_regions : (c d : Program O B) (p : Ptr Operation) (v w : OperationView O) → operation_at c p ≡ Some v → operation_at d p ≡ Some w
       → w.regions ≡ v.regions → regions_in d p ≡ regions_in c p
@@ -107,9 +94,8 @@ module _ {O B : Type 0} (c d : Program O B) (p q : Ptr Operation) (sound : IsSou
       let now = leaves.operations x v.0 out v.1 in
       same_regions c d x v.0 (record v.0 { operands = now.0 }) v.1 now.1 refl
 
-  region_lists : (r : Ptr Region) → (StandsInside c (OperationNode q) (RegionNode r) → ⊥) → IsSome (region_at c r)
-      → blocks_in d r ≡ blocks_in c r
-  region_lists r out live = let v = some_of (region_at c r) live in same_blocks c d r v.0 v.1 (leaves.regions r v.0 out v.1)
+  region_lists : (r : Ptr Region) → IsLiveOutside c q (RegionNode r) → blocks_in d r ≡ blocks_in c r
+  region_lists r out = same_blocks c d r (leaves.regions r out)
 
   block_lists : (b : Ptr BasicBlock) → (StandsInside c (OperationNode q) (BlockNode b) → ⊥) → IsSome (block_at c b)
       → operations_in d b ≡ operations_in c b
@@ -121,10 +107,10 @@ module _ {O B : Type 0} (c d : Program O B) (p q : Ptr Operation) (sound : IsSou
   block_stays x b out s = leaves.sound.operations b s.index x
       (ap (λ l. slice_get l s.index) (block_lists b out s.block) ∙ s.here)
 
-  region_stays : (b : Ptr BasicBlock) (r : Ptr Region) → (StandsInside c (OperationNode q) (RegionNode r) → ⊥)
+  region_stays : (b : Ptr BasicBlock) (r : Ptr Region) → IsLiveOutside c q (RegionNode r)
       → StandsInRegion c b r → StandsInRegion d b r
   region_stays b r out s = leaves.sound.blocks r s.index b
-      (ap (λ l. slice_get l s.index) (region_lists r out s.region) ∙ s.here)
+      (ap (λ l. slice_get l s.index) (region_lists r out) ∙ s.here)
 
   operation_stays : (r : Ptr Region) (x : Ptr Operation) → (StandsInside c (OperationNode q) (OperationNode x) → ⊥)
       → StandsInOperation c r x → StandsInOperation d r x
@@ -137,9 +123,20 @@ module _ {O B : Type 0} (c d : Program O B) (p q : Ptr Operation) (sound : IsSou
     block = child.block;
     region = child.region;
     in_block = block_stays q child.block block_out child.in_block;
-    in_region = region_stays child.block child.region region_out child.in_region;
+    in_region = region_stays child.block child.region (p, child.in_operation, parent_out) child.in_region;
     in_operation = operation_stays child.region p parent_out child.in_operation;
   }
+
+  -- a region that is inside the parent and outside of the child is so with its operation
+  owner_out : (e : IRNode) → StandsInside c (OperationNode p) e → (r : Ptr Region) → e ≡ RegionNode r
+      → (StandsInside c (OperationNode q) (RegionNode r) → ⊥) → IsLiveOutside c q (RegionNode r)
+  owner_out _ itself r e out = cc
+  owner_out _ (in_block x b s i) r e out = cc
+  owner_out _ (in_region b z s i) r e out = cc
+  owner_out _ (in_operation z x s i) r e out =
+      let same : z ≡ r = cc in
+      let here : StandsInOperation c r x = subst (λ y. StandsInOperation c y x) same s in
+      (x, here, λ j. out (in_operation r x here j))
 
   -- what is inside the parent and outside of the child is inside the parent afterwards
   inside_then : (e : IRNode) → (StandsInside c (OperationNode q) e → ⊥) → StandsInside c (OperationNode p) e
@@ -150,7 +147,7 @@ module _ {O B : Type 0} (c d : Program O B) (p q : Ptr Operation) (sound : IsSou
       in_block x b (block_stays x b above s) (inside_then (BlockNode b) above i)
   inside_then _ out (in_region b r s i) =
       let above : StandsInside c (OperationNode q) (RegionNode r) → ⊥ = λ j. out (in_region b r s j) in
-      in_region b r (region_stays b r above s) (inside_then (RegionNode r) above i)
+      in_region b r (region_stays b r (owner_out (RegionNode r) i r refl above) s) (inside_then (RegionNode r) above i)
   inside_then _ out (in_operation r x s i) =
       let above : StandsInside c (OperationNode q) (OperationNode x) → ⊥ = λ j. out (in_operation r x s j) in
       in_operation r x (operation_stays r x above s) (inside_then (OperationNode x) above i)
@@ -158,7 +155,7 @@ module _ {O B : Type 0} (c d : Program O B) (p q : Ptr Operation) (sound : IsSou
   -- and what is so afterwards was
   was_inside : (e : IRNode) → (StandsInside d (OperationNode q) e → ⊥) → StandsInside d (OperationNode p) e
       → IsLiveOutside c q e × StandsInside c (OperationNode p) e
-  was_inside e out itself = ((parent_live, parent_out), itself)
+  was_inside _ out itself = ((parent_live, parent_out), itself)
   was_inside _ out (in_block x b s i) =
       let above = was_inside (BlockNode b) (λ j. out (in_block x b s j)) i in
       let lists = block_lists b above.0.1 above.0.0 in
@@ -166,13 +163,13 @@ module _ {O B : Type 0} (c d : Program O B) (p q : Ptr Operation) (sound : IsSou
       (leaves.none_come x s.operation out, in_block x b at above.1)
   was_inside _ out (in_region b r s i) =
       let above = was_inside (RegionNode r) (λ j. out (in_region b r s j)) i in
-      let lists = region_lists r above.0.1 above.0.0 in
+      let lists = region_lists r above.0 in
       let at = sound.blocks r s.index b (ap (λ l. slice_get l s.index) (sym lists) ∙ s.here) in (
         (
           at.block,
           λ j. ⊎_elim
               (λ (e : OperationNode q ≡ BlockNode b). cc)
-              above.0.1
+              (region_out_of c sound q r above.0)
               (around_block c (has_lists c sound) (OperationNode q) b r at j),
         ),
         in_region b r at above.1,
@@ -180,16 +177,22 @@ module _ {O B : Type 0} (c d : Program O B) (p q : Ptr Operation) (sound : IsSou
   was_inside _ out (in_operation r x s i) =
       let above = was_inside (OperationNode x) (λ j. out (in_operation r x s j)) i in
       let lists = operation_lists x above.0.1 above.0.0 in
-      let at = sound.regions x s.index r (ap (λ l. slice_get l s.index) (sym lists) ∙ s.here) in (
-        (
-          at.region,
-          λ j. ⊎_elim
-              (λ (e : OperationNode q ≡ RegionNode r). cc)
-              above.0.1
-              (around_region c (has_lists c sound) (OperationNode q) r x at j),
-        ),
-        in_operation r x at above.1,
-      )
+      let at = sound.regions x s.index r (ap (λ l. slice_get l s.index) (sym lists) ∙ s.here) in
+      ((x, at, above.0.1), in_operation r x at above.1)
+
+  -- what is outside of the parent is so afterwards
+  stay_outer : (e : IRNode) → IsLiveOutside c p e → IsLiveOutside d p e
+  stay_outer (OperationNode x) out =
+      let still = leaves.stays (OperationNode x) (out.0, λ i. out.1 (up (OperationNode x) i)) in
+      (still.0, λ i. out.1 (was_inside (OperationNode x) still.1 i).1)
+  stay_outer (BlockNode b) out =
+      let still = leaves.stays (BlockNode b) (out.0, λ i. out.1 (up (BlockNode b) i)) in
+      (still.0, λ i. out.1 (was_inside (BlockNode b) still.1 i).1)
+  stay_outer (RegionNode r) out =
+      let x = out.0 in
+      let child_out : StandsInside c (OperationNode q) (OperationNode x) → ⊥ = λ i. out.2 (up (OperationNode x) i) in
+      let still = leaves.stays (OperationNode x) (out.1.operation, child_out) in
+      (x, operation_stays r x child_out out.1, λ i. out.2 (was_inside (OperationNode x) still.1 i).1)
 
   -- what is left outside of a child is left outside of its parent
   pub left_in_child : LeavesOutside c d p
@@ -203,10 +206,8 @@ module _ {O B : Type 0} (c d : Program O B) (p q : Ptr Operation) (sound : IsSou
           record { count = now.2.count; kept = λ k u here other. now.2.kept k u here (λ below. other (defined_up u below)) },
         );
     blocks = λ b v out there. leaves.blocks b v (λ i. out (up (BlockNode b) i)) there;
-    regions = λ r v out there. leaves.regions r v (λ i. out (up (RegionNode r) i)) there;
-    stays = λ e out.
-        let still = leaves.stays e (out.0, λ i. out.1 (up e i)) in
-        (still.0, λ i. out.1 (was_inside e still.1 i).1);
+    regions = λ r out. leaves.regions r (out.0, out.1, λ i. out.2 (up (OperationNode out.0) i));
+    stays = stay_outer;
     none_come = λ x there out.
         let outer : StandsInside d (OperationNode q) (OperationNode x) → ⊥ =
         λ i. out (inside_both d (OperationNode p) (OperationNode q) (OperationNode x)
@@ -223,11 +224,9 @@ module _ {O B : Type 0} (c d : Program O B) (p q : Ptr Operation) (sound : IsSou
       ap (flat_map (operations_of_region d)) lists ∙ joined_same (operations_of_region d) (operations_of_region c) (regions_in c p) (λ r has.
       let k = has_at (regions_in c p) r has in
       let at = sound.regions p k.0 r k.1 in
-      let out : StandsInside c (OperationNode q) (RegionNode r) → ⊥ = λ j. ⊎_elim
-      (λ (e : OperationNode q ≡ RegionNode r). cc)
-      parent_out
-      (around_region c (has_lists c sound) (OperationNode q) r p at j) in
-      ap (flat_map (operations_in d)) (region_lists r out at.region)
+      let own : IsLiveOutside c q (RegionNode r) = (p, at, parent_out) in
+      let out = region_out_of c sound q r own in
+      ap (flat_map (operations_in d)) (region_lists r own)
       ∙ joined_same (operations_in d) (operations_in c) (blocks_in c r) (λ b in_r.
       let i = has_at (blocks_in c r) b in_r in
       let there = sound.blocks r i.0 b i.1 in

@@ -7,7 +7,7 @@ use Rattle.opt_trees.specs.Dialect.{Dialect}
 use Rattle.opt_trees.specs.Occurrences.{Has, defined_in}
 use Rattle.opt_trees.specs.Sccp.{Name, Old, New, fresh, constant_before, put_one, put_results, put_arguments, put, old_head}
 use Rattle.opt_trees.proofs.NoneDead.{has-append}
-use Rattle.kit_ruled_passes.proofs.InTrees.{HasOperation, HasBlock}
+use Rattle.pass_outside.proofs.InTrees.{HasOperation, HasBlock}
 
 module _ (N : Names) {S : Contents} {A : Type 0} (d : Dialect S A) (made : N.value → Option A) where
   abbrev Definitions : Type 0

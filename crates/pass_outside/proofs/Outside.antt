@@ -1,9 +1,9 @@
 -- What is left outside in two steps is left outside in both together.
-use Rattle.std.proofs.Common.{◌≡◌, inl, inr, ℕ, zero, suc, List, [], ◌∷◌, map, Option, Some, None, IsSome, slice_get, refl, sym, ap, subst, ◌∙◌}
+use Rattle.std.proofs.Common.{◌≡◌, ⊎_elim, inl, inr, ℕ, zero, suc, List, [], ◌∷◌, map, Option, Some, None, IsSome, slice_get, refl, sym, ap, subst, ◌∙◌}
 use Rattle.std.specs.Prelude.{option_map, unwrap_or}
 use Rattle.ir_program.specs.Definers.{values_at}
 use Rattle.ir_program.specs.Lists.{StandsInside}
-use Rattle.ir_program.specs.Program.{Program, TypedValue, OperationView, BlockView, operation_at, block_at, region_at, value_in, type_at}
+use Rattle.ir_program.specs.Program.{Program, TypedValue, OperationView, BlockView, operation_at, block_at, value_in, type_at}
 use Rattle.ir_program.specs.Rows.{operands_at}
 use Rattle.ir_program.specs.declared.handles.BasicBlock.{BasicBlock}
 use Rattle.ir_program.specs.declared.handles.DefiningEntity.TheVariants.{Op as ByOp, Block as ByBlock}
@@ -11,12 +11,14 @@ use Rattle.ir_program.specs.declared.handles.IRNode.TheVariants.{Operation as Op
 use Rattle.ir_program.specs.declared.handles.IRNode.TheVariants.{Region as RegionNode}
 use Rattle.ir_program.specs.declared.handles.Operation.{Operation}
 use Rattle.ir_program.specs.declared.handles.Ptr.{Ptr}
+use Rattle.ir_program.specs.declared.handles.Region.{Region}
 use Rattle.ir_program.specs.declared.handles.Value.{Value}
 use Rattle.ir_trees.specs.Renames.{names_of}
 use Rattle.ir_trees.specs.Stands.{defined_by}
 use Rattle.opt_trees.specs.Occurrences.{Has}
 use Rattle.opt_inside.specs.Occurring.{IsDefinedBelow}
-use Rattle.pass_outside.specs.Outside.{KeepsOtherOperands, LeavesOutside}
+use Rattle.opt_inside.proofs.Around.{HasLists, around_region}
+use Rattle.pass_outside.specs.Outside.{IsLiveOutside, KeepsOtherOperands, LeavesOutside}
 use Rattle.pass_outside.specs.Sound.{IsSound}
 
 pub some_of : {X : Type 0} (o : Option X) → IsSome o → (x : X) × (o ≡ Some x)
@@ -25,6 +27,27 @@ some_of (Some x) h = (x, refl)
 
 pub is_some : {X : Type 0} (o : Option X) (x : X) → o ≡ Some x → IsSome o
 is_some o x h = subst IsSome (sym h) refl
+
+module _ {O B : Type 0} (c : Program O B) (sound : IsSound c) where
+  pub has_lists : HasLists c
+  has_lists = record {
+    operations_once = sound.operations_once;
+    blocks_once = sound.blocks_once;
+    regions_once = sound.regions_once;
+    operations = sound.operations;
+    blocks = sound.blocks;
+    regions = sound.regions;
+    operation_apart = sound.operation_apart;
+    block_apart = sound.block_apart;
+  }
+
+  -- a region that is outside isn't inside
+  pub region_out_of : (op : Ptr Operation) (r : Ptr Region) → IsLiveOutside c op (RegionNode r)
+      → StandsInside c (OperationNode op) (RegionNode r) → ⊥
+  region_out_of op r out i = ⊎_elim
+      (λ (e : OperationNode op ≡ RegionNode r). cc)
+      out.2
+      (around_region c has_lists (OperationNode op) r out.0 out.1 i)
 
 -- what a row has at an index comes from what leads to the row
 row_of : {X Y : Type 0} (f : X → List Y) (o : Option X) (k : ℕ) (y : Y) → slice_get (unwrap_or (option_map f o) []) k ≡ Some y
@@ -86,7 +109,7 @@ left_same c op sound live = record {
   live = live;
   operations = λ p v out there. (v.operands, there, record { count = refl; kept = λ k u here other. here });
   blocks = λ b v out there. there;
-  regions = λ r v out there. there;
+  regions = λ r out. refl;
   stays = λ e out. out;
   none_come = λ p there out. (there, out);
 }
@@ -132,9 +155,7 @@ module _ {O B : Type 0} (old mid new : Program O B) (op : Ptr Operation) (sound 
     blocks = λ b v out there.
         let still = first.stays (BlockNode b) (is_some (block_at old b) v there, out) in
         second.blocks b v still.1 (first.blocks b v out there);
-    regions = λ r v out there.
-        let still = first.stays (RegionNode r) (is_some (region_at old r) v there, out) in
-        second.regions r v still.1 (first.regions r v out there);
+    regions = λ r out. second.regions r (first.stays (RegionNode r) out) ∙ first.regions r out;
     stays = λ e out. second.stays e (first.stays e out);
     none_come = λ p there out. let was = second.none_come p there out in first.none_come p was.0 was.1;
   }

@@ -14,8 +14,8 @@ use Rattle.opt_trees.specs.Simplify.{StartingRegions, is_bare, along_edge, decid
 use Rattle.opt_trees.specs.Simplify.{but_last, append, Joins}
 use Rattle.opt_trees.specs.Simplify as joining
 use Rattle.opt_trees.proofs.NoneDead.{has-append, has-left, has-right}
-use Rattle.kit_ruled_passes.proofs.InTrees.{HasOperation, HasBlock, Includes, includes_all, includes_both, has_regions}
-use Rattle.kit_ruled_passes.proofs.InTrees.{has_operations, has_body, has_later, has_blocks, has_next}
+use Rattle.pass_outside.proofs.InTrees.{HasOperation, HasBlock, Includes, includes_all, includes_both, has_regions}
+use Rattle.pass_outside.proofs.InTrees.{has_operations, has_body, has_later, has_blocks, has_next}
 
 module _ {N : Names} {S : Contents} where
   -- parts whose parts are included

@@ -1,7 +1,7 @@
 -- What a pass at an operation leaves of all that isn't inside it.
 use Rattle.std.specs.Prelude.{◌≡◌, ℕ, List, length, Some, IsSome, slice_get}
-use Rattle.ir_program.specs.Lists.{StandsInside, IsLiveNode}
-use Rattle.ir_program.specs.Program.{Program, OperationView, BlockView, RegionView, operation_at, block_at, region_at}
+use Rattle.ir_program.specs.Lists.{StandsInOperation, StandsInside}
+use Rattle.ir_program.specs.Program.{Program, OperationView, BlockView, operation_at, block_at, region_at}
 use Rattle.ir_program.specs.declared.handles.BasicBlock.{BasicBlock}
 use Rattle.ir_program.specs.declared.handles.IRNode.{IRNode}
 use Rattle.ir_program.specs.declared.handles.IRNode.TheVariants.{Operation as OperationNode, BasicBlock as BlockNode}
@@ -14,9 +14,13 @@ use Rattle.opt_inside.specs.Occurring.{IsDefinedBelow}
 use Rattle.opt_inside.specs.Outside.{AddsNoneOutside}
 use Rattle.pass_outside.specs.Sound.{IsSound}
 
--- the node is live, and isn't inside the operation
+-- the node is live, and isn't inside the operation; a region isn't where the operation isn't whose region it is
 abbrev pub IsLiveOutside : {O B : Type 0} → Program O B → Ptr Operation → IRNode → Type 0
-IsLiveOutside c op e = IsLiveNode c e × (StandsInside c (OperationNode op) e → ⊥)
+IsLiveOutside c op (OperationNode p) =
+    IsSome (operation_at c p) × (StandsInside c (OperationNode op) (OperationNode p) → ⊥)
+IsLiveOutside c op (BlockNode b) = IsSome (block_at c b) × (StandsInside c (OperationNode op) (BlockNode b) → ⊥)
+IsLiveOutside c op (RegionNode r) =
+    (p : Ptr Operation) × StandsInOperation c r p × (StandsInside c (OperationNode op) (OperationNode p) → ⊥)
 
 module _ {O B : Type 0} (old new : Program O B) (op : Ptr Operation) where
   -- of these operands each is as it was that isn't defined below the operation
@@ -36,7 +40,6 @@ module _ {O B : Type 0} (old new : Program O B) (op : Ptr Operation) where
         × KeepsOtherOperands v.operands now
     pub blocks : (b : Ptr BasicBlock) (v : BlockView B) → (StandsInside old (OperationNode op) (BlockNode b) → ⊥)
         → block_at old b ≡ Some v → block_at new b ≡ Some v
-    pub regions : (r : Ptr Region) (v : RegionView) → (StandsInside old (OperationNode op) (RegionNode r) → ⊥)
-        → region_at old r ≡ Some v → region_at new r ≡ Some v
+    pub regions : (r : Ptr Region) → IsLiveOutside old op (RegionNode r) → region_at new r ≡ region_at old r
     pub stays : (e : IRNode) → IsLiveOutside old op e → IsLiveOutside new op e
     pub none_come : AddsNoneOutside old new op
