@@ -1,17 +1,16 @@
 -- What leaves all that isn't inside an operation: operands there change only where they are defined below it, and nothing
 -- is brought inside or comes outside.
-use Rattle.std.proofs.Common.{◌≡◌, ◌⊎◌, ⊎_elim, List, map, Option, Some, IsSome, option_map, unwrap_or, slice_get, refl, sym, ap, ◌∙◌}
+use Rattle.std.proofs.Common.{◌≡◌, ◌⊎◌, ⊎_elim, List, [], map, Option, Some, IsSome, option_map, unwrap_or, slice_get, sym, ap, ◌∙◌}
 use Rattle.std.proofs.lemmas.List.{length-map, map-id}
 use Rattle.std.proofs.lemmas.Option.{slice_get-map}
 use Rattle.ir_program.specs.Lists.{StandsInside}
-use Rattle.ir_program.specs.Program.{Program, OperationView, BlockView, operation_at, block_at, region_at}
+use Rattle.ir_program.specs.Program.{Program, OperationView, operation_at, block_at, region_at}
 use Rattle.ir_program.specs.declared.handles.BasicBlock.{BasicBlock}
 use Rattle.ir_program.specs.declared.handles.IRNode.{IRNode}
 use Rattle.ir_program.specs.declared.handles.IRNode.TheVariants.{Operation as OperationNode, BasicBlock as BlockNode}
 use Rattle.ir_program.specs.declared.handles.IRNode.TheVariants.{Region as RegionNode}
 use Rattle.ir_program.specs.declared.handles.Operation.{Operation}
 use Rattle.ir_program.specs.declared.handles.Ptr.{Ptr}
-use Rattle.ir_program.specs.declared.handles.Region.{Region}
 use Rattle.ir_program.specs.declared.handles.Value.{Value}
 use Rattle.opt_inside.specs.Occurring.{IsDefinedBelow}
 use Rattle.opt_inside.specs.Outside.{AddsNoneOutside, ChangesOperandsOutside, KeepsOutside}
