@@ -1,9 +1,8 @@
 -- What is left outside an operation where what is dead in it goes.
-use Rattle.std.proofs.Common.{◌≡◌, ⊎_elim, inl, IsSome, refl, sym, subst}
+use Rattle.std.proofs.Common.{◌≡◌, ⊎_elim, inl, refl, sym, subst}
 use Rattle.ir_program.specs.Lists.{StandsInside, itself}
-use Rattle.ir_program.specs.Program.{Program, operation_at, block_at}
-use Rattle.ir_program.specs.declared.handles.BasicBlock.{BasicBlock}
-use Rattle.ir_program.specs.declared.handles.IRNode.TheVariants.{Operation as OperationNode, BasicBlock as BlockNode}
+use Rattle.ir_program.specs.Program.{Program, operation_at}
+use Rattle.ir_program.specs.declared.handles.IRNode.TheVariants.{Operation as OperationNode}
 use Rattle.ir_program.specs.declared.handles.Operation.{Operation}
 use Rattle.ir_program.specs.declared.handles.Ptr.{Ptr}
 use Rattle.ir_trees.specs.Stands.{in_program, ProgramTree, StandsFor}

@@ -1,5 +1,5 @@
 -- What is left outside an operation where control flow below it is simplified, or simplifying it stops.
-use Rattle.std.proofs.Common.{◌≡◌, ◌⊎◌, ⊎_elim, inl, inr, Some, None, IsSome, refl, sym, ap, ◌∙◌, subst}
+use Rattle.std.proofs.Common.{◌≡◌, ◌⊎◌, ⊎_elim, inl, inr, None, IsSome, refl, sym, ap, ◌∙◌, subst}
 use Rattle.ir_opts.specs.Simplified.{StopsAt, while_deciding, while_removing, loses_uses, while_joining, comes_back}
 use Rattle.ir_opts.specs.SimplifiedTree.{SimplifiesTree}
 use Rattle.ir_program.specs.Lists.{StandsInside, itself}

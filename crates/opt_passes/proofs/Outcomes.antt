@@ -1,5 +1,5 @@
 -- What the optimisations make, and what they leave outside, from what they promise.
-use Rattle.std.proofs.Common.{◌≡◌, ⊎_elim, Bool, Result, Ok, Err, IsSome, refl, sym, ap, subst}
+use Rattle.std.proofs.Common.{◌≡◌, ⊎_elim, Bool, Result, Ok, Err, IsSome, sym, ap, subst}
 use Rattle.std.specs.Prelude.{◌↔◌, IfErr, IfOk, OnErr, OnOk}
 use Rattle.ir_context.specs.Views.{ContextView}
 use Rattle.ir_opts.specs.Simplified.{HasNothingToDo, Simplifies, StopsAt}
@@ -22,7 +22,7 @@ use Rattle.pass_analyses.specs.declared.manager.AnalysisManager.{AnalysisManager
 use Rattle.pass_outside.specs.Outside.{LeavesOutside}
 use Rattle.pass_outside.specs.Sound.{IsSound}
 use Rattle.pass_outside.proofs.Outside.{left_same}
-use Rattle.opt_passes.specs.Outcomes.{IsToldBy, TakesOutDead, taken_out, none_taken}
+use Rattle.opt_passes.specs.Outcomes.{TakesOutDead, taken_out, none_taken}
 use Rattle.opt_passes.specs.Outcomes.{PutsConstantsIn, put_in, some_put, none_put}
 use Rattle.opt_passes.specs.Outcomes.{SimplifiesFlow, simplified, stopped}
 use Rattle.opt_passes.specs.Tested.{FailsTest, not_verified, not_local, RunsTested, refused, foreign}

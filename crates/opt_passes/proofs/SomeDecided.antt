@@ -1,8 +1,8 @@
 -- What is left outside an operation where some of the branches below it are decided.
-use Rattle.std.proofs.Common.{◌≡◌, ◌⊎◌, ⊎_elim, inl, inr, ℕ, List, [], ◌∷◌, map, Option, Some, None, IsSome}
+use Rattle.std.proofs.Common.{◌≡◌, ⊎_elim, inl, inr, List, [], ◌∷◌, map, Option, Some, None, IsSome}
 use Rattle.std.proofs.Common.{option_map, unwrap_or, slice_get, refl, sym, ap, ◌∙◌, subst}
 use Rattle.std.proofs.lemmas.Option.{slice_get-map}
-use Rattle.ir_program.specs.Lists.{operations_in, blocks_in, regions_in, StandsInBlock, StandsInRegion, StandsInOperation}
+use Rattle.ir_program.specs.Lists.{operations_in, blocks_in, regions_in, StandsInBlock}
 use Rattle.ir_program.specs.Lists.{StandsInside, itself, in_block, in_region, in_operation}
 use Rattle.ir_program.specs.Program.{Program, OperationView, BlockView, RegionView, operation_at, block_at}
 use Rattle.ir_program.specs.declared.handles.BasicBlock.{BasicBlock}
@@ -12,10 +12,9 @@ use Rattle.ir_program.specs.declared.handles.IRNode.TheVariants.{Region as Regio
 use Rattle.ir_program.specs.declared.handles.Operation.{Operation}
 use Rattle.ir_program.specs.declared.handles.Ptr.{Ptr}
 use Rattle.ir_program.specs.declared.handles.Region.{Region}
-use Rattle.ir_trees.specs.Searched.{Lists}
 use Rattle.ir_trees.specs.Stands.{in_program}
 use Rattle.ir_trees.proofs.Members.{Has, has_at}
-use Rattle.opt_decide.specs.Phase.{IsUndecided, CarriesOutPart}
+use Rattle.opt_decide.specs.Phase.{CarriesOutPart}
 use Rattle.opt_decide.specs.Replaced.{along}
 use Rattle.opt_decide.specs.declared.plan.Decision.{Decision}
 use Rattle.opt_decide.proofs.Carried.{among_or_not, bare_branch}

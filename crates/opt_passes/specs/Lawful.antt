@@ -1,5 +1,5 @@
 -- A pass that tests its operation first keeps to the laws of passes.
-use Rattle.std.proofs.Common.{◌≡◌, Bool, true, false, [], IsSome, refl, sym, subst}
+use Rattle.std.proofs.Common.{◌≡◌, Bool, true, false, [], IsSome, sym, subst}
 use Rattle.std.specs.Prelude.{Result, Ok}
 use Rattle.ir_context.specs.Views.{ContextView}
 use Rattle.ir_program.specs.Program.{operation_at}
