@@ -8,6 +8,7 @@ use text_streams::{
     number_as_string_parse, parse_from_str, quoted_string_parse, spaced,
     state_stream_from_iterator,
 };
+use text_writers::laws::quoted_is_read_again;
 use text_writers::{Printable, State, quoted};
 
 /// A syntax fault on the first line, before which nothing was read.
@@ -89,6 +90,10 @@ fn quoted_texts_are_read_back(rt: HostRuntime) -> Result<(), Fail> {
     match bad {
         Ok(_) => assert!(rt; false),
         Err(fault) => assert_eq!(rt; fault, syntax_at(1)),
+    }
+    match quoted_is_read_again(rt.alloc(), "\\", "\"") {
+        Ok(said) => assert_eq!(rt; said.as_str(), "\\"),
+        Err(_) => assert!(rt; false),
     }
     Ok(())
 }

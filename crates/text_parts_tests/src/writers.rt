@@ -7,7 +7,7 @@ use std::alloc::AllocError;
 use std::test::Fail;
 use text_writers::{
     ListSeparator, Printable, RegionPrintDepthLimit, State, TextWriter, disp, enclosed, fmt_iter,
-    in_region, indented_nl, iter_with_sep, list_with_sep, printable_from_fn,
+    in_region, indented_nl, iter_with_sep, iter_with_sep_by, list_with_sep, printable_from_fn,
 };
 
 /// A text on a line of its own, one step deeper.
@@ -92,5 +92,15 @@ fn functions_print(rt: HostRuntime) -> Result<(), Fail> {
     let text = disp(rt.alloc(), &enclosed("<", ">", number), &1)?;
     let shown = format!(in rt.alloc(); "{text}")?;
     assert_eq!(rt; shown.as_str(), "<one>");
+    let numbers = [1u8, 2];
+    let signs = iter_with_sep_by(
+        numbers.iter(),
+        ListSeparator::Char(' '),
+        |number: &u8, least: &u8, _state: &mut State, out: &mut String| {
+            out.write_text(if *number > *least { ">" } else { "=" })
+        },
+    );
+    let compared = disp(rt.alloc(), &signs, &1)?;
+    assert_eq!(rt; compared.as_str(), "= >");
     Ok(())
 }

@@ -3,6 +3,7 @@
 
 mod displays;
 mod functions;
+pub mod laws;
 mod lines;
 mod lists;
 mod printable;
