@@ -1,0 +1,3 @@
+pub mod SegmentFaults
+pub mod Symbols
+pub mod Users
