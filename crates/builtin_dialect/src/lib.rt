@@ -22,6 +22,11 @@ pub mod uninterruptible {
     pub use ir_walks::uninterruptible::immutable;
 }
 
+pub use attr_ifaces::MaterializableAttr;
+pub use attr_ifaces::OutlinedAttr;
+pub use attr_ifaces::PrintOnceAttr;
+pub use attr_ifaces::TypedAttrInterface;
+pub use attr_ifaces::TypedAttributes;
 pub use builtin_ifaces::BranchOpInterface;
 pub use builtin_ifaces::BranchOpInterfaceVerifyErr;
 pub use builtin_ifaces::BuiltinDialect;
@@ -139,3 +144,14 @@ pub use op_ifaces::TypeInterfaceImplsErr;
 pub use op_ifaces::is_told_by_rows;
 pub use op_ifaces::resolve_index_range;
 pub use op_ifaces::verify_rows;
+pub use region_ifaces::RegionBranchOpInterface;
+pub use region_ifaces::RegionBranchOpInterfaceVerifyErr;
+pub use region_ifaces::RegionBranchPoint;
+pub use region_ifaces::RegionBranches;
+pub use region_ifaces::RegionEdge;
+pub use region_ifaces::RegionSuccessor;
+pub use region_ifaces::ValueRange;
+pub use symbol_ifaces::SegmentNImplsTy;
+pub use symbol_ifaces::SegmentNImplsTyErr;
+pub use symbol_ifaces::SymbolUserOpInterface;
+pub use symbol_ifaces::SymbolUserOpInterfaceErr;

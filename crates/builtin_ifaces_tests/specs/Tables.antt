@@ -85,7 +85,7 @@ signature (types.Function takes gives) = Some (takes ∷ [], gives ∷ [])
 abbrev pub table : TinyOp → List OpInterface
 table ops.Def = []
 table ops.Func = interface.SymbolOp ∷ []
-table ops.Invoke = interface.CallOp ∷ []
+table ops.Invoke = interface.CallOp ∷ interface.SymbolUserOp ∷ []
 table ops.Apply = interface.CallOp ∷ interface.OperandSegment ∷ interface.SegmentN 0 (Interface FunctionType) ∷ []
 table ops.Go = interface.IsTerminator ∷ interface.Branch ∷ interface.OneSucc ∷ []
 table ops.CondGo = interface.IsTerminator ∷ interface.Branch ∷ interface.NSuccs 2 ∷ interface.OperandSegment ∷ []

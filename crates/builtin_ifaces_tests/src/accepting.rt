@@ -16,6 +16,7 @@ use op_ifaces::{NSuccsVerifyErr, RowsVerifyErr};
 use std::alloc::Global;
 use std::process::Abort;
 use std::test::Fail;
+use symbol_ifaces::SymbolUserOpInterface;
 
 /// Why nothing was made.
 fn why(error: IdentifierError) -> GrowError {
@@ -196,6 +197,17 @@ fn check_call(rt: &impl Abort, ctx: &Context<Tiny>, op: Ptr<Operation>, ty: Type
     }
 }
 
+/// The symbol that a call by name uses, where no table is around the call.
+fn check_use(rt: &impl Abort, alloc: Global, ctx: &Context<Tiny>, op: Ptr<Operation>) {
+    if op.is_live(ctx) {
+        assert!(rt; SymbolUserOpInterface::verify_symbol_uses(op, ctx).is_err());
+        match SymbolUserOpInterface::used_symbols(alloc, op, ctx) {
+            Ok(names) => assert!(rt; names.len() == 1),
+            Err(_) => assert!(rt; false),
+        }
+    }
+}
+
 /// A call without the type of what it calls, with one that is no function's, and with one that is.
 fn check_calls(
     rt: &impl Abort,
@@ -226,6 +238,7 @@ fn check_calls(
     )?;
     check(rt, ctx, op, Ok(()));
     check_call(rt, ctx, op, function);
+    check_use(rt, alloc, ctx, op);
     Ok(())
 }
 

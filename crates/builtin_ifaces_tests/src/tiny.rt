@@ -81,7 +81,7 @@ pub struct TinyLocation;
 
 const FUNC: &[OpInterface] = &[OpInterface::SymbolOp];
 
-const INVOKE: &[OpInterface] = &[OpInterface::CallOp];
+const INVOKE: &[OpInterface] = &[OpInterface::CallOp, OpInterface::SymbolUserOp];
 
 const APPLY: &[OpInterface] = &[
     OpInterface::CallOp,
