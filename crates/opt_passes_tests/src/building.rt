@@ -14,7 +14,7 @@ pub struct Nest {
 }
 
 /// An operation with this number and with one region of one block.
-pub fn nest(alloc: Global, ctx: &mut ItemContext, number: u64) -> Result<Nest, GrowError> {
+pub fn make_nest(alloc: Global, ctx: &mut ItemContext, number: u64) -> Result<Nest, GrowError> {
     let op = ctx.new_operation(alloc, Item { number }, &[], &[], &[], 1)?;
     let block = ctx.new_block(alloc, Bare, &[])?;
     if op.is_live(ctx) && block.is_live(ctx) {
