@@ -153,5 +153,7 @@ pub use region_ifaces::RegionSuccessor;
 pub use region_ifaces::ValueRange;
 pub use symbol_ifaces::SegmentNImplsTy;
 pub use symbol_ifaces::SegmentNImplsTyErr;
+pub use symbol_ifaces::SymbolTableInterface;
+pub use symbol_ifaces::SymbolTableInterfaceErr;
 pub use symbol_ifaces::SymbolUserOpInterface;
 pub use symbol_ifaces::SymbolUserOpInterfaceErr;

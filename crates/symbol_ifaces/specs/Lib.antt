@@ -1,3 +1,4 @@
 pub mod SegmentFaults
 pub mod Symbols
 pub mod Users
+pub mod Tables
