@@ -79,7 +79,9 @@ fn dead_code_goes_in_nested_operations(rt: HostRuntime) -> Result<(), Fail> {
     let alloc = rt.alloc();
     assert!(rt; run(alloc, DCEPass, 3, false) == Ok(Some((Ok(IRStatus::Changed), 1, false))));
     assert!(rt; run(alloc, SCCPPass, 3, false) == Ok(Some((Ok(IRStatus::Unchanged), 1, true))));
-    assert!(rt; run(alloc, SimplifyCFGPass, 3, false) == Ok(Some((Ok(IRStatus::Unchanged), 1, true))));
+    assert!(rt;
+        run(alloc, SimplifyCFGPass, 3, false) == Ok(Some((Ok(IRStatus::Unchanged), 1, true)))
+    );
     Ok(())
 }
 
