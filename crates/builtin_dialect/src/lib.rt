@@ -1,11 +1,14 @@
 //! The layer for lint tools and authors of dialects, by one name: interfaces of operations with their verifiers, walks with
-//! and without changes, and symbol tables.
+//! and without changes, symbol tables, and the operations, types and attributes that most dialects have.
 //!
 //! - An interface is a type without fields: [`NOpdsInterface`], [`BranchOpInterface`], [`SymbolOpInterface`] and their kin. Each has
 //!   `verify`, and getters of what it promises; [`op_impls`] asks a dialect's table for it. [`verify_interfaces`] asks an operation all
-//!   that the table of its kind lists.
+//!   that the table of its kind lists, and [`InterfaceVerifiers`] are the verifiers of a dialect's table for `verify_operation` of `ir_core`.
 //! - `interruptible` and `uninterruptible`, each `immutable` and `mutable`, have `walk_op`, `walk_region` and `walk_block`.
 //! - [`SymbolTable`] and [`SymbolTableCollection`] find operations by name.
+//! - [`ModuleOp`], [`FuncOp`], [`ConstantOp`] and [`ForwardRefOp`] make, ask and verify the operations that most dialects
+//!   have; [`set_operation_result_name`] and its kin name results and arguments.
+//! - [`IntegerAttr`], [`DictAttr`] and their kin are attributes that a dialect may put into its own.
 //!
 //! Programs, contexts and their calls are in `ir_core`.
 #![tactic(auto)]
@@ -27,6 +30,19 @@ pub use attr_ifaces::OutlinedAttr;
 pub use attr_ifaces::PrintOnceAttr;
 pub use attr_ifaces::TypedAttrInterface;
 pub use attr_ifaces::TypedAttributes;
+pub use builtin_data::BoolAttr;
+pub use builtin_data::DictAttr;
+pub use builtin_data::FunctionType;
+pub use builtin_data::GivenNamesAttr;
+pub use builtin_data::IdentifierAttr;
+pub use builtin_data::IntegerAttr;
+pub use builtin_data::IntegerType;
+pub use builtin_data::OperandSegmentSizesAttr;
+pub use builtin_data::StringAttr;
+pub use builtin_data::TypeAttr;
+pub use builtin_data::UnitAttr;
+pub use builtin_data::UnitType;
+pub use builtin_data::VecAttr;
 pub use builtin_ifaces::BranchOpInterface;
 pub use builtin_ifaces::BranchOpInterfaceVerifyErr;
 pub use builtin_ifaces::BuiltinDialect;
@@ -44,9 +60,40 @@ pub use builtin_ifaces::SuccessorLayout;
 pub use builtin_ifaces::SymbolOpInterface;
 pub use builtin_ifaces::SymbolOpInterfaceErr;
 pub use builtin_ifaces::VerifyFault;
-pub use builtin_ifaces::keys;
 pub use builtin_ifaces::verify_interface;
 pub use builtin_ifaces::verify_interfaces;
+pub use builtin_ops::BuiltinOps;
+pub use builtin_ops::ConstantOp;
+pub use builtin_ops::ConstantOpVerifyErr;
+pub use builtin_ops::ForwardRefOp;
+pub use builtin_ops::ForwardRefOpExistenceErr;
+pub use builtin_ops::FuncOp;
+pub use builtin_ops::FuncOpTypeErr;
+pub use builtin_ops::ModuleOp;
+pub use builtin_ops::NameLists;
+pub use builtin_ops::get_block_argument_name;
+pub use builtin_ops::get_num_block_argument_names;
+pub use builtin_ops::get_num_operation_result_names;
+pub use builtin_ops::get_operation_result_name;
+pub use builtin_ops::insert_block_argument_name;
+pub use builtin_ops::insert_operation_result_name;
+pub use builtin_ops::keys;
+pub use builtin_ops::remove_block_argument_name;
+pub use builtin_ops::remove_operation_result_name;
+pub use builtin_ops::set_block_argument_name;
+pub use builtin_ops::set_operation_result_name;
+pub use builtin_types::BuiltinTypes;
+pub use builtin_types::GetFunctionType;
+pub use builtin_types::GetIntegerType;
+pub use builtin_types::GetUnitType;
+pub use interface_verifiers::BuiltinOpErr;
+pub use interface_verifiers::InterfaceErr;
+pub use interface_verifiers::InterfaceVerifiers;
+pub use interface_verifiers::NoRegionBranches;
+pub use interface_verifiers::OperationFault;
+pub use interface_verifiers::RegionBranchVerifier;
+pub use interface_verifiers::RegionBranchesOfDialect;
+pub use interface_verifiers::Summarized;
 pub use ir_mutable_walks::WalkLimit;
 pub use ir_queries::AttrInterfaceMarker;
 pub use ir_queries::AttrMarker;

@@ -5,7 +5,7 @@ use Rattle.ir_names.specs.Tree.{Trees, node, no_tree, a_tree, count}
 use Rattle.ir_print.specs.declared.format.ValueSort.TheVariants as sorts
 use Rattle.ir_print.specs.declared.format.LeafSort.{LeafSort}
 use Rattle.ir_print.specs.declared.format.LeafSort.TheVariants as leaves
-use Rattle.ir_print.specs.Pieces.{Leaf, name, number, unsigned, width, quoted, Piece, value_of_kind, list, item, chosen, operands, successor, region, leaf, ValueTree, Pieces, Values, canonical_value, EntityHead, operation, a_region, block, Entity, entity, Entities, no_entity, an_entity}
+use Rattle.ir_print.specs.Pieces.{Leaf, name, number, unsigned, width, quoted, mark, Piece, value_of_kind, list, item, chosen, operands, successor, region, leaf, ValueTree, Pieces, Values, canonical_value, EntityHead, operation, a_region, block, Entity, entity, Entities, no_entity, an_entity}
 use Rattle.ir_grammar.specs.declared.grammar.Action.{Action}
 use Rattle.ir_grammar.specs.declared.grammar.Action.TheVariants as act
 use Rattle.ir_forest.specs.Forest.{ActionSpan}
@@ -56,6 +56,7 @@ leaf_in leaves.Number cs = number_in cs
 leaf_in leaves.Digits cs = unsigned (digits cs)
 leaf_in leaves.Width cs = width_in cs
 leaf_in leaves.Text cs = quoted (unescaped (drop 1 cs))
+leaf_in leaves.Mark cs = mark (digits (drop 1 cs))
 
 -- ---- types, attributes, and what operations say
 

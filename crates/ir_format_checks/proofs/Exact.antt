@@ -35,6 +35,7 @@ leaf_valid leaves.Number = tt
 leaf_valid leaves.Digits = tt
 leaf_valid leaves.Width = tt
 leaf_valid leaves.Text = tt
+leaf_valid leaves.Mark = tt
 
 mutual
   step_first : (s : Step) → HasWords s → (t : TokenClass → Bool) → begins t s ≡ true → First (λ u. begins u s) t

@@ -3,7 +3,7 @@ use Rattle.std.specs.Prelude.{◌≡◌, Bool, true, false, ◌&&◌, ◌||◌, 
 use Rattle.ir_print.specs.Formats.{Step, word, operands, operand, successor, a_value, a_region, symbol_name, a_leaf, list_of, choice_of, Steps, no_steps, step, Choices, no_choice, a_choice}
 use Rattle.ir_print.specs.declared.format.LeafSort.{LeafSort}
 use Rattle.ir_print.specs.declared.format.LeafSort.TheVariants as leaves
-use Rattle.ir_format_checks.specs.Tokens.{TokenClass, given, a_name, dotted, digits, number, width, quotation, Column, takes}
+use Rattle.ir_format_checks.specs.Tokens.{TokenClass, given, a_name, dotted, digits, number, width, quotation, mark, Column, takes}
 
 -- ---- what a part begins with (FIRST)
 
@@ -30,6 +30,7 @@ leaf_class leaves.Number = number
 leaf_class leaves.Digits = digits
 leaf_class leaves.Width = width
 leaf_class leaves.Text = quotation
+leaf_class leaves.Mark = mark
 
 module _ (is_it : TokenClass → Bool) where
   abbrev mutual

@@ -57,7 +57,8 @@ fn is_made(sort: FormatSort, directive: Directive) -> bool
         | Directive::Number
         | Directive::Digits
         | Directive::Width
-        | Directive::Text => !sort.is_operation(),
+        | Directive::Text
+        | Directive::Mark => !sort.is_operation(),
         Directive::List(member, separator) => {
             !sort.is_operation() && is_word(separator.trim()) && are_made(sort, member)
         }

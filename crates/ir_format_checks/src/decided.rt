@@ -126,6 +126,7 @@ fn begins<S: TokenSet>(set: &S, directive: Directive) -> bool
         Directive::Digits => set.has_token_of(Class::Digits),
         Directive::Width => set.has_token_of(Class::Width),
         Directive::Text => set.has_token_of(Class::Text),
+        Directive::Mark => set.has_token_of(Class::Mark),
         Directive::List(member, _) => all_begin(set, member),
         Directive::Choice(alternatives) => {
             for format in alternatives {

@@ -104,7 +104,8 @@ const CLOSE_OPERATIONS: &[&[Directive]] = &[
     &[Directive::Operands, Directive::Region, Directive::Operands],
 ];
 
-/// Booleans, vectors, dictionaries and numbers; a choice with a format that is empty; lists and choices in one another.
+/// Booleans, vectors, dictionaries, numbers and marks; a choice with a format that is empty; lists and choices in one
+/// another.
 const CLOSE_VALUES: &[&[Directive]] = &[
     &[Directive::Choice(&[
         &[Directive::Literal("true")],
@@ -128,6 +129,7 @@ const CLOSE_VALUES: &[&[Directive]] = &[
         Directive::Literal("}"),
     ],
     &[Directive::Digits],
+    &[Directive::Choice(&[&[Directive::Mark], &[Directive::Number], &[Directive::Text]])],
     &[
         Directive::Choice(&[&[Directive::Literal("new")], &[]]),
         Directive::Literal("("),

@@ -24,6 +24,7 @@ const UNDECIDED_OPERATIONS: &[&[Directive]] = &[
 const BAD_OPERATIONS: &[&[Directive]] = &[
     &[Directive::Digits],
     &[Directive::Name],
+    &[Directive::Mark],
     &[
         Directive::Literal("["),
         Directive::List(&[Directive::Type], ","),

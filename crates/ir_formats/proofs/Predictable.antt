@@ -319,7 +319,7 @@ module _ (g : Grammar) where
 
 -- a grammar of the rules and signs that formats make is read by a table that passes the test for them
 pub can_read_given : (g : Grammar) (f : Formats) (words : List (Bor (List ℕ))) (table : List PlainPart) (n : ℕ) → plain_rules g.rules.items ≡ rules_of f → plain_classes g.signs.items ≡ classes_of (words_of f)
-    → map plain_facts g.parts.items ≡ map (dense n) table → texts words ≡ words_of f → n ≡ length words + 7 → fits (grammar_value f table) ≡ true → CanRead g 0
+    → map plain_facts g.parts.items ≡ map (dense n) table → texts words ≡ words_of f → n ≡ length words + 8 → fits (grammar_value f table) ≡ true → CanRead g 0
 can_read_given g f words table n rules signs parts spelled columns e =
-    let count : n ≡ length (words_of f) + 7 = columns ∙ ap (λ k. k + 7) (sym (length-map words (λ (w : Bor (List ℕ)). w.now)) ∙ ap length spelled) in
+    let count : n ≡ length (words_of f) + 8 = columns ∙ ap (λ k. k + 8) (sym (length-map words (λ (w : Bor (List ℕ)). w.now)) ∙ ap length spelled) in
     can_read_by g (rw (rules, signs, parts, count) e)

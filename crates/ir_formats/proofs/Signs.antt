@@ -68,7 +68,7 @@ kept_sign words known cs c i j kind name token is_kind is_name =
     let numbered = numbered_with known (c ∷ []) in
     record {
       sign = token.spelled.0;
-      kind = is_kind ∙ ap (λ (x : List ℕ). word_kind (number_of words x) (length words) 5) text;
+      kind = is_kind ∙ ap (λ (x : List ℕ). word_kind (number_of words x) (length words) 6) text;
       number = rw text (numbered.is ∙ sym is);
       among = rw (text, is) numbered.among;
     }
@@ -126,7 +126,7 @@ module _ (words known : List (List ℕ)) (cs : List ℕ) (signs : List (Option (
   alone : text_here cs k at ≡ slice_index cs at ∷ []
   alone = sign_text cs k at (at + 1) inside refl
 
-  pub met_kind : kind ≡ word_kind (number_of words (text_here cs k at)) (length words) 5
+  pub met_kind : kind ≡ word_kind (number_of words (text_here cs k at)) (length words) 6
   met_kind = rw alone met.kind
 
   pub met_name : name ≡ number_of known (text_here cs k at)

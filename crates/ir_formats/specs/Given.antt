@@ -45,5 +45,5 @@ abbrev pub grammar_value : Formats → List PlainPart → PlainGrammar
 grammar_value f table = let ws = words_of f in record {
   signs = classes_of ws;
   rules = rules_of f;
-  parts = map (dense (length ws + 7)) table;
+  parts = map (dense (length ws + 8)) table;
 }

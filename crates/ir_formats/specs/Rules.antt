@@ -83,8 +83,8 @@ words_of f = with_words (with_words (with_words (with_words [] frame_words) (wor
 abbrev pub up : ℕ → ℕ → ℕ
 up n k = min (n + k) 4294967295
 
--- the sign of names, that of widths, that of numbers, that of numbers without a sign and that of texts in quotes; each word has one of its
--- own behind these
+-- the sign of names, that of widths, that of numbers, that of numbers without a sign, that of texts in quotes and that of marks; each word has
+-- one of its own behind these
 abbrev pub name : Symbol
 name = Sign 0
 
@@ -100,36 +100,40 @@ digits = Sign 3
 abbrev pub quotation : Symbol
 quotation = Sign 4
 
+abbrev pub mark : Symbol
+mark = Sign 5
+
 abbrev pub sign : List (List ℕ) → List ℕ → Symbol
-sign words w = Sign (up (number_of words w) 5)
+sign words w = Sign (up (number_of words w) 6)
 
 -- whether this is a word that may be a name
 abbrev pub is_name : Option (List ℕ) → Bool
 is_name None = false
 is_name (Some w) = is_identifier w
 
--- Kinds 0 to 5 of token are names, widths, digits, negative numbers, texts in quotes and all others, and word i has the kind i + 6. A name may be
--- of kind 0 or 1, or a word that is an identifier.
+-- Kinds 0 to 6 of token are names, widths, digits, negative numbers, texts in quotes, marks and all others, and word i has the kind i + 7. A
+-- name may be of kind 0 or 1, or a word that is an identifier.
 abbrev pub may_be_name : List (List ℕ) → ℕ → Bool
-may_be_name words k = if nat_lt k 6 then k == 0 || k == 1 else is_name (slice_get words (k - 6))
+may_be_name words k = if nat_lt k 7 then k == 0 || k == 1 else is_name (slice_get words (k - 7))
 
 -- Whether a sign takes tokens of a kind: that of names, that of widths, that of numbers, that of those without a sign, that of texts in quotes,
--- and behind these sign i + 5 of word i.
+-- that of marks, and behind these sign i + 6 of word i.
 abbrev pub takes : List (List ℕ) → ℕ → ℕ → Bool
 takes words zero k = may_be_name words k
 takes words (suc zero) k = k == 1
 takes words (suc (suc zero)) k = k == 2 || k == 3
 takes words (suc (suc (suc zero))) k = k == 2
 takes words (suc (suc (suc (suc zero)))) k = k == 4
-takes words (suc (suc (suc (suc (suc i))))) k = k == i + 6
+takes words (suc (suc (suc (suc (suc zero))))) k = k == 5
+takes words (suc (suc (suc (suc (suc (suc i)))))) k = k == i + 7
 
 -- the kinds that a sign takes, as a mark for each kind
 abbrev pub class_of : List (List ℕ) → ℕ → List Bool
-class_of words s = map (takes words s) (range_with_len 0 (length words + 6))
+class_of words s = map (takes words s) (range_with_len 0 (length words + 7))
 
 -- the signs of a grammar with these words
 abbrev pub classes_of : List (List ℕ) → List (List Bool)
-classes_of words = map (class_of words) (range_with_len 0 (length words + 5))
+classes_of words = map (class_of words) (range_with_len 0 (length words + 6))
 
 -- ---- rules
 
@@ -269,6 +273,7 @@ leaf_sign leaves.Number = number
 leaf_sign leaves.Digits = digits
 leaf_sign leaves.Width = width
 leaf_sign leaves.Text = quotation
+leaf_sign leaves.Mark = mark
 
 abbrev mutual
   -- what a step makes, n being the part of the next list

@@ -34,7 +34,7 @@ AreAllSigns signs = (c : ℕ) (found : ℕ × ℕ) → slice_get signs c ≡ Som
 -- the kind and the number of a sign, for these words and these known texts
 pub record IsKnownSign (words known : List (List ℕ)) (c : ℕ) (found : ℕ × ℕ) : Type 0 where
   pub sign : is_sign c ≡ true
-  pub kind : found.0 ≡ word_kind (number_of words (c ∷ [])) (length words) 5
+  pub kind : found.0 ≡ word_kind (number_of words (c ∷ [])) (length words) 6
   pub number : number_of known (c ∷ []) ≡ found.1
   pub among : found.1 < length known
 

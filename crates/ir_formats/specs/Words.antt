@@ -23,7 +23,8 @@ shape_number shapes.Width = 1
 shape_number shapes.Digits = 2
 shape_number shapes.Negative = 3
 shape_number shapes.Text = 4
-shape_number shapes.Other = 5
+shape_number shapes.Mark = 5
+shape_number shapes.Other = 6
 
 -- words as characters
 abbrev pub spellings : List Characters → List (List ℕ)
@@ -64,13 +65,14 @@ is_quotation [] = false
 is_quotation (c ∷ cs) = are_whole cs
 
 -- the kind of a token that is no word of the grammar: names have 0, widths 1, digits 2, negative numbers 3,
--- texts in quotes 4 and all others 5
+-- texts in quotes 4, marks 5 and all others 6
 abbrev pub shape_kind : TokenKind → List ℕ → ℕ
 shape_kind Name text = if is_width text then 1 else 0
 shape_kind Digits text = 2
 shape_kind Negative text = 3
-shape_kind Text text = if is_quotation text then 4 else 5
-shape_kind _ text = 5
+shape_kind Text text = if is_quotation text then 4 else 6
+shape_kind Mark text = 5
+shape_kind _ text = 6
 
 -- the token may be a word of the grammar or a name: it is no number, text or mark
 abbrev pub is_spelled : TokenKind → Bool
@@ -92,11 +94,11 @@ name_number all none cs t = if is_spelled t.kind then number_of all (text_of cs 
 -- This is the number of a word, of so many, that has a kind of its own. Kinds end at 2^32 - 1, far past those of any dialect, and words
 -- past that have none.
 abbrev pub has_kind : ℕ → ℕ → Bool
-has_kind number words = nat_lt number words && nat_lt number 4294967289
+has_kind number words = nat_lt number words && nat_lt number 4294967288
 
 -- the kind of the word of this number, of so many, or of a token that is none of them
 abbrev pub word_kind : ℕ → ℕ → ℕ → ℕ
-word_kind number words shape = if has_kind number words then number + 6 else shape
+word_kind number words shape = if has_kind number words then number + 7 else shape
 
 -- the kind of a token: a word of the grammar has that of the word, and any other that of its shape
 abbrev pub kind_of : List (List ℕ) → List ℕ → Token → ℕ

@@ -28,12 +28,13 @@ pub enum Shape {
     Negative,
     /// A text in quotes.
     Text,
+    Mark,
     /// A token that no text of the grammar has.
     Other,
 }
 
 /// The number of shapes, and so the kind of the first word.
-pub const SHAPES: usize = 6;
+pub const SHAPES: usize = 7;
 
 impl Shape {
     /// The kind of tokens of this shape.
@@ -46,7 +47,8 @@ impl Shape {
             Shape::Digits => 2,
             Shape::Negative => 3,
             Shape::Text => 4,
-            Shape::Other => 5,
+            Shape::Mark => 5,
+            Shape::Other => 6,
         }
     }
 }
@@ -62,8 +64,10 @@ const DIGITS_SIGN: u32 = 3;
 
 const TEXT_SIGN: u32 = 4;
 
+const MARK_SIGN: u32 = 5;
+
 /// The sign of the first word; each word has one.
-const FIRST_WORD_SIGN: u32 = 5;
+const FIRST_WORD_SIGN: u32 = 6;
 
 /// The parts of each dialect's grammar. Lists and choices have further ones.
 const ROOT: u32 = 0;
@@ -236,6 +240,7 @@ fn add_directive(words: &mut Vec<&'static str>, directive: Directive) -> Result<
         Directive::Digits => {}
         Directive::Width => {}
         Directive::Text => {}
+        Directive::Mark => {}
     }
     Ok(())
 }
@@ -533,6 +538,12 @@ impl RuleMaker {
                     Symbol::Act(Action::Leaf(LeafSort::Text)),
                 ])
             }
+            Directive::Mark => {
+                symbols.extend_from_slice(&[
+                    Symbol::Sign(MARK_SIGN),
+                    Symbol::Act(Action::Leaf(LeafSort::Mark)),
+                ])
+            }
             Directive::Operands
             | Directive::Successor
             | Directive::List(_, _)
@@ -701,6 +712,7 @@ fn is_taken(words: &[&'static str], sign: usize, kind: usize) -> bool
         2 => kind == 2 || kind == 3,
         3 => kind == 2,
         4 => kind == 4,
+        5 => kind == 5,
         _ => kind >= SHAPES && kind - SHAPES == sign - FIRST_WORD_SIGN as usize,
     }
 }
@@ -772,7 +784,7 @@ fn with_table(
     ensures rules { IfOk result (λ g. g.rules ≡ rules) }
     ensures signs { IfOk result (λ g. plain_classes g.signs.items ≡ classes_of (texts words.now)) }
     ensures parts { IfOk result (λ g. map plain_facts g.parts.items
-        ≡ map (dense (length words.now + 7)) (map plain_part table.now)) }
+        ≡ map (dense (length words.now + 8)) (map plain_part table.now)) }
 {
     Ok(Grammar {
         signs: signs(alloc, words)?,

@@ -162,6 +162,7 @@ fn shape_of(kind: TokenKind, text: Text) -> u32
                 Shape::Other
             }
         }
+        TokenKind::Mark => Shape::Mark,
         _ => Shape::Other,
     };
     shape.kind()

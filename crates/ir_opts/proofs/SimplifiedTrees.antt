@@ -98,6 +98,7 @@ module _ {O B A : Type 0} (d : Dialect (in_program O B) A) (old branched reduced
         names = f;
         twice = decides.twice;
         fresh = decides.operations;
+        kept = decides.kept;
         root = decides.root;
         stands = subst (StandsFor new op)
             (sym (renamed_back (Ptr Operation) (Ptr BasicBlock) Value (in_program O B) f decides.twice merged.after))

@@ -12,6 +12,7 @@ use Rattle.opt_dialect.specs.declared.status.IRStatus.{IRStatus}
 use Rattle.opt_dialect.specs.declared.status.IRStatus.TheVariants.{Unchanged}
 use Rattle.opt_dialect.specs.declared.status.OptError.{OptError}
 use Rattle.opt_dialect.specs.declared.status.OptError.TheVariants.{LiveUse, Memory}
+use Rattle.opt_handles.specs.Handles.{KeepsHandles}
 use Rattle.opt_inside.specs.reach.Starts.{IsStartIn}
 use Rattle.opt_inside.specs.declared.reach.starts.Start.{Start}
 use Rattle.opt_inside.specs.declared.reach.starts.Start.TheVariants.{Operation as AtOperation, Block as AtBlock, Region as AtRegion}
@@ -39,6 +40,7 @@ module _ {O B A : Type 0} (d : Dialect (in_program O B) A) (old new : Program O 
     pub same : result ≡ Ok Unchanged → new ≡ old
     pub refused : IfErr result (λ e. (e ≡ Memory) ⊎ ((e ≡ LiveUse) × LosesUses d old op start))
     pub kept : OnErr result (new ≡ old)
+    pub handles : KeepsHandles old new op
 
   -- the chains of blocks are joined, unless following what is forwarded to an argument comes back to it
   pub record AnswersMerging (result : Result IRStatus OptError) : Type 0 where
@@ -48,3 +50,4 @@ module _ {O B A : Type 0} (d : Dialect (in_program O B) A) (old new : Program O 
     pub same : result ≡ Ok Unchanged → new ≡ old
     pub refused : IfErr result (λ e. (e ≡ Memory) ⊎ ((e ≡ LiveUse) × HasCircle d old op start))
     pub kept : OnErr result (new ≡ old)
+    pub handles : KeepsHandles old new op

@@ -11,10 +11,12 @@ use Rattle.opt_trees.specs.Simplify.{IsSimplify}
 use Rattle.opt_inside.specs.Around.{SaysAround}
 use Rattle.opt_inside.specs.Outside.{AddsNoneOutside, ChangesOperandsOutside}
 use Rattle.opt_decide.specs.Phase.{maps_of}
+use Rattle.opt_decide.specs.Planned.{IsDecidedBelow}
 
 -- the operation stands for its tree, simplified, up to the handles of new branches: each of these, which led nowhere,
--- and the handle of the branch in whose place it is change places. What isn't inside the operation is as it was, but
--- for operands: in place of an argument of a block that went is what was forwarded to it; and nothing comes there
+-- and the handle of the branch in whose place it is change places. Those are branches below the operation that their
+-- operands decide; each other operation keeps its handle. What isn't inside the operation is as it was, but for
+-- operands: in place of an argument of a block that went is what was forwarded to it; and nothing comes there
 pub record SimplifiesTree {O B A : Type 0} (d : Dialect (in_program O B) A) (old new : Program O B)
     (op : Ptr Operation) (t : ProgramTree O B) : Type 0 where
   pub around : TreeSurroundings by_handle A
@@ -25,6 +27,7 @@ pub record SimplifiesTree {O B A : Type 0} (d : Dialect (in_program O B) A) (old
   pub twice : (p : Ptr Operation) → names (names p) ≡ p
   pub fresh : (p : Ptr Operation) → IsSome (operation_at old p)
       → (names p ≡ p) ⊎ (operation_at old (names p) ≡ None)
+  pub kept : (p : Ptr Operation) → IsSome (operation_at old p) → (IsDecidedBelow d old op p → ⊥) → names p ≡ p
   pub root : names op ≡ op
   pub stands : StandsFor new op (rename_root (maps_of names) after)
   pub outside : ChangesOperandsOutside old new op simplified.is_joined.names

@@ -5,6 +5,7 @@ ghost use Rattle.ir_trees.specs.Stands.{ProgramTree, StandsFor};
 ghost use Rattle.ir_opts.specs.Simplified.{HasNothingToDo, Simplifies, StopsAt};
 ghost use Rattle.ir_opts.specs.SimplifiedTree.{SimplifiesTree};
 ghost use Rattle.opt_dialect.specs.declared.status.IRStatus.TheVariants.{Unchanged};
+ghost use Rattle.opt_handles.specs.Handles.{KeepsHandles};
 ghost use Rattle.opt_inside.specs.Edges.{FitsEdgesBelow, HasLocalEdgesBelow};
 
 use crate::joining::merge_chains;
@@ -21,7 +22,8 @@ use std::alloc::Global;
 /// decide where they go; then blocks that no path from the entry of their region reaches go; then each chain of blocks
 /// becomes one block, and each use of an argument of a block that goes becomes a use of what was forwarded to it. The
 /// last two phases are of SSA regions that are visited, from the operation's own regions on. It answers whether there
-/// was anything to do.
+/// was anything to do. What goes is erased: its handles are refused from then on, and so is each that was refused before.
+/// All that stays keeps its handle.
 ///
 /// Source: Muchnick, Advanced compiler design and implementation, 1997, 18.1 and 18.2.
 ///
@@ -43,6 +45,7 @@ pub fn simplify_cfg<D: OptDialect, T: TypeTable>(
     ensures unchanged { IfOk result (λ status. (status ≡ Unchanged) ↔ HasNothingToDo D.meaning ctx.old.program op) }
     ensures same { result ≡ Ok Unchanged → ctx.new ≡ ctx.old }
     ensures error { IfErr result (StopsAt D.meaning ctx.old.program ctx.new.program op) }
+    ensures handles { KeepsHandles ctx.old.program ctx.new.program op }
     ensures numbers { ctx.new.program.counter ≡ ctx.old.program.counter }
     ensures types { ctx.new.types ≡ ctx.old.types }
 {

@@ -6,7 +6,7 @@ use Rattle.ir_print.specs.declared.format.Directive.{Directive, Directive-F, fol
 use Rattle.ir_print.specs.declared.format.Directive as directive
 use Rattle.ir_print.specs.declared.format.LeafSort.TheVariants as leaves
 use Rattle.ir_print.specs.declared.format.ValueSort.TheVariants as sorts
-use Rattle.ir_print.specs.declared.format.Directive.TheVariants.{rolls-List, rolls-Literal, rolls-Operands, rolls-Operand, rolls-Successor, rolls-Attribute, rolls-Type, rolls-Region, rolls-SymbolHeader, rolls-Name, rolls-Number, rolls-Digits, rolls-Text, rolls-Width, rolls-Choice}
+use Rattle.ir_print.specs.declared.format.Directive.TheVariants.{rolls-List, rolls-Literal, rolls-Operands, rolls-Operand, rolls-Successor, rolls-Attribute, rolls-Type, rolls-Region, rolls-SymbolHeader, rolls-Name, rolls-Number, rolls-Digits, rolls-Text, rolls-Mark, rolls-Width, rolls-Choice}
 
 pub step_of-Literal : (text : Bor (List ℕ)) → step_of (directive.Literal text) ≡ word text.now (trim text.now)
 step_of-Literal text = ap step_of (sym (rolls-Literal text)) ∙ fold-roll-Directive Step step_by (Directive-F.Literal text)
@@ -47,6 +47,9 @@ step_of-Digits = ap step_of (sym rolls-Digits) ∙ fold-roll-Directive Step step
 pub step_of-Text : step_of directive.Text ≡ a_leaf leaves.Text
 step_of-Text = ap step_of (sym rolls-Text) ∙ fold-roll-Directive Step step_by Directive-F.Text
 
+pub step_of-Mark : step_of directive.Mark ≡ a_leaf leaves.Mark
+step_of-Mark = ap step_of (sym rolls-Mark) ∙ fold-roll-Directive Step step_by Directive-F.Mark
+
 pub step_of-Width : step_of directive.Width ≡ a_leaf leaves.Width
 step_of-Width = ap step_of (sym rolls-Width) ∙ fold-roll-Directive Step step_by Directive-F.Width
 
@@ -65,4 +68,4 @@ step_of-Choice alternatives =
     ∙ ap (λ cs. choice_of cs) (choices_are alternatives.now))
 
 -- what the directives of a format stand for
-pub ruleset step_rules = (step_of-Literal, step_of-List, step_of-Choice, step_of-Digits, step_of-Text, step_of-Operands, step_of-Operand, step_of-Successor, step_of-Attribute, step_of-Type, step_of-Region, step_of-SymbolHeader, step_of-Name, step_of-Number, step_of-Width)
+pub ruleset step_rules = (step_of-Literal, step_of-List, step_of-Choice, step_of-Digits, step_of-Text, step_of-Mark, step_of-Operands, step_of-Operand, step_of-Successor, step_of-Attribute, step_of-Type, step_of-Region, step_of-SymbolHeader, step_of-Name, step_of-Number, step_of-Width)

@@ -64,6 +64,7 @@ step_by Directive-F.Number = a_leaf leaves.Number
 step_by Directive-F.Digits = a_leaf leaves.Digits
 step_by Directive-F.Width = a_leaf leaves.Width
 step_by Directive-F.Text = a_leaf leaves.Text
+step_by Directive-F.Mark = a_leaf leaves.Mark
 step_by (Directive-F.List member separator) = list_of (steps member.now) separator.now (trim separator.now)
 step_by (Directive-F.Choice alternatives) = choice_of (choices alternatives.now)
 

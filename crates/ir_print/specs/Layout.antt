@@ -7,7 +7,7 @@ use Rattle.ir_names.specs.Tree.{node, no_tree, a_tree}
 use Rattle.ir_print.specs.Formats as step
 use Rattle.ir_print.specs.Formats.{Formats, Kind, Step, Steps, no_steps, alternative, kinds_of}
 use Rattle.ir_print.specs.declared.format.ValueSort.TheVariants as sorts
-use Rattle.ir_print.specs.Pieces.{Leaf, name, number, unsigned, width, quoted, value_of_kind, list, item, chosen, operands, successor, region, leaf, ValueTree, Pieces, EntityHead, operation, a_region, block, Entity, entity, Entities, no_entity, an_entity}
+use Rattle.ir_print.specs.Pieces.{Leaf, name, number, unsigned, width, quoted, mark, value_of_kind, list, item, chosen, operands, successor, region, leaf, ValueTree, Pieces, EntityHead, operation, a_region, block, Entity, entity, Entities, no_entity, an_entity}
 
 -- A part of a text: white space, a token, or a word as it is printed, with white space around it, and as it is read.
 pub data Chunk : Type 0 where
@@ -107,6 +107,10 @@ abbrev pub number_text : Bool → ℕ → List ℕ
 number_text true magnitude = codes "-" ++ decimal magnitude
 number_text false magnitude = decimal magnitude
 
+-- a mark: `!`, and its number
+abbrev pub mark_text : ℕ → List ℕ
+mark_text n = codes "!" ++ decimal n
+
 -- how a leaf is spelled
 abbrev pub leaf_text : Leaf → List ℕ
 leaf_text (name cs) = cs
@@ -114,6 +118,7 @@ leaf_text (number negative magnitude) = number_text negative magnitude
 leaf_text (unsigned magnitude) = decimal magnitude
 leaf_text (width sign bits) = width_text sign bits
 leaf_text (quoted cs) = in_quotes cs
+leaf_text (mark n) = mark_text n
 
 -- the token of a leaf
 abbrev pub leaf_chunk : Leaf → Chunk

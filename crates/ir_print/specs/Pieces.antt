@@ -17,6 +17,8 @@ pub data Leaf : Type 0 where
   width : Signedness → ℕ → Leaf
   -- a text in quotes, by the characters that it says
   quoted : List ℕ → Leaf
+  -- a mark, by its number
+  mark : ℕ → Leaf
 
 -- A piece of what a type, an attribute or an operation says, one for each directive of its format that is no literal. Kinds are
 -- given by their numbers in the dialect.

@@ -9,7 +9,7 @@ use Rattle.ir_print.specs.Formats.{Formats, Kind, Step, Steps, no_steps, kinds_o
 use Rattle.ir_print.specs.declared.format.ValueSort.TheVariants as sorts
 use Rattle.ir_print.specs.declared.format.LeafSort.{LeafSort}
 use Rattle.ir_print.specs.declared.format.LeafSort.TheVariants as leaves
-use Rattle.ir_print.specs.Pieces.{Leaf, name, number, unsigned, width, quoted, value_of_kind, list, item, chosen, operands, successor, region, leaf, refused_value, canonical_value, ValueTree, Pieces, Values}
+use Rattle.ir_print.specs.Pieces.{Leaf, name, number, unsigned, width, quoted, mark, value_of_kind, list, item, chosen, operands, successor, region, leaf, refused_value, canonical_value, ValueTree, Pieces, Values}
 use Rattle.ir_print.specs.Layout.{alternative_of}
 use Rattle.ir_print.specs.Shown.{Saying, ShowsAll, operands_said, Said, said_type, said_attribute, said_list, said_item, said_choice, said_operands, said_successor, said_region, said_leaf}
 
@@ -40,6 +40,7 @@ sort_of (number negative magnitude) = leaves.Number
 sort_of (unsigned magnitude) = leaves.Digits
 sort_of (width sign bits) = leaves.Width
 sort_of (quoted cs) = leaves.Text
+sort_of (mark n) = leaves.Mark
 
 -- A step takes leaves of one sort; that of the name of a symbol takes names.
 abbrev pub TakesLeaf : Step → LeafSort → Type 0
@@ -47,14 +48,15 @@ TakesLeaf (step.a_leaf sort) s = sort ≡ s
 TakesLeaf step.symbol_name s = leaves.Name ≡ s
 TakesLeaf _ s = ⊥
 
--- A leaf can be read: a name is one, a number has at most 64 bits, with a sign or without one, and a width at most 32; a text in quotes
--- says characters.
+-- A leaf can be read: a name is one, a number has at most 64 bits, with a sign or without one, and so has that of a mark; a width has at
+-- most 32; a text in quotes says characters.
 abbrev pub IsInRange : Leaf → Type 0
 IsInRange (name cs) = is_identifier cs ≡ true
 IsInRange (number negative magnitude) = magnitude < 2 ^ 64
 IsInRange (unsigned magnitude) = magnitude < 2 ^ 64
 IsInRange (width sign bits) = bits < 2 ^ 32
 IsInRange (quoted cs) = all_scalars cs ≡ true
+IsInRange (mark n) = n < 2 ^ 64
 
 -- A list of operands takes any number of them, and the step of one operand takes one.
 abbrev pub TakesOperands : Step → ℕ → Type 0

@@ -12,7 +12,7 @@ use Rattle.ir_print.specs.declared.format.Part.TheVariants as part
 use Rattle.ir_print.specs.declared.format.ValueSort.TheVariants as sorts
 use Rattle.ir_print.specs.declared.format.LeafValue.{LeafValue}
 use Rattle.ir_print.specs.declared.format.LeafValue.TheVariants as read
-use Rattle.ir_print.specs.Pieces.{Leaf, name, number, unsigned, width, quoted, value_of_kind, list, item, chosen, operands, successor, region, leaf, ValueTree, Pieces, Values}
+use Rattle.ir_print.specs.Pieces.{Leaf, name, number, unsigned, width, quoted, mark, value_of_kind, list, item, chosen, operands, successor, region, leaf, ValueTree, Pieces, Values}
 
 -- A piece of what something in a context says. Types are given by their handles.
 pub data Said (A : Type 0) : Type 0 where
@@ -44,7 +44,7 @@ abbrev pub IsNumber : Option Number → Bool → ℕ → Type 0
 IsNumber (Some n) negative magnitude = (n.is_negative ≡ negative) × (n.magnitude ≡ magnitude)
 IsNumber None negative magnitude = 2 ^ 64 ≤ magnitude
 
--- the number without a sign that is read is this one; none is kept from 2^64 on
+-- the number without a sign that is read, or that of a mark, is this one; none is kept from 2^64 on
 abbrev pub AreDigitsOf : Option ℕ → ℕ → Type 0
 AreDigitsOf (Some n) magnitude = n ≡ magnitude
 AreDigitsOf None magnitude = 2 ^ 64 ≤ magnitude
@@ -61,6 +61,7 @@ IsLeaf (read.Number o) (number negative magnitude) = IsNumber o negative magnitu
 IsLeaf (read.Digits o) (unsigned magnitude) = AreDigitsOf o magnitude
 IsLeaf (read.Width s o) (width sign bits) = (s ≡ sign) × IsWidth o bits
 IsLeaf (read.Text s) (quoted cs) = chars (string_bytes s) ≡ cs
+IsLeaf (read.Mark o) (mark n) = AreDigitsOf o n
 IsLeaf _ _ = ⊥
 
 -- each of the first with the one of the second beside it, and neither has more

@@ -17,6 +17,7 @@ pub enum LeafSort {
     Digits,
     Width,
     Text,
+    Mark,
 }
 
 /// One step of a format.
@@ -48,6 +49,8 @@ pub enum Directive {
     Width,
     /// Characters in quotes, where `\"` and `\\` stand for `"` and `\`.
     Text,
+    /// `!` and a decimal number.
+    Mark,
     /// What the directives say, none or more times, with this literal between two members.
     List(&'static [Directive], &'static str),
     /// What one of these formats says. No two begin alike.
@@ -73,6 +76,8 @@ pub enum LeafValue {
     Width(Signedness, Option<u32>),
     /// What a text in quotes says.
     Text(String),
+    /// None stands for a mark past 64 bits.
+    Mark(Option<u64>),
 }
 
 /// A part of a value, one for each directive of its format that is no literal.

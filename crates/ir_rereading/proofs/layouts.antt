@@ -14,6 +14,7 @@ pub mod PrintedNames
 pub mod PrintedDefinitions
 pub mod LayoutParts
 pub mod LayoutNumbers
+pub mod LeafTokens
 pub mod LayoutValues
 pub mod LayoutOperations
 pub mod LayoutEntities

@@ -9,7 +9,9 @@ ghost use Rattle.ir_grammar.specs.declared.grammar.Stop.TheVariants.{Text, Deep}
 ghost use Rattle.ir_tokens.specs.Tokens.{ReadsAs};
 ghost use Rattle.ir_grammar.specs.Grammar.{IsTextOf};
 ghost use Rattle.ir_grammar.specs.Table.{CanRead};
-ghost use Rattle.ir_print.specs.Pieces.{Entity};
+ghost use Rattle.ir_print.specs.Layout.{leaf_text};
+ghost use Rattle.ir_print.specs.Pieces.{Entity, Leaf};
+ghost use Rattle.ir_print.specs.Shapes.{sort_of, IsInRange};
 ghost use Rattle.ir_tokens.specs.declared.faults.Fault.{Fault};
 ghost use Rattle.ir_tokens.specs.declared.faults.TextFault.{TextFault};
 ghost use Rattle.ir_scopes.specs.Depth.{IsTooDeep};
@@ -21,7 +23,8 @@ ghost use Rattle.ir_formats.specs.Rules.{plain_rules, rules_of, IsGrammarOf};
 ghost use Rattle.ir_grammar.specs.Nesting.{at_root, at_end, FollowTokens, OwnTokens};
 ghost use Rattle.ir_formats.specs.Ordered.{PartPositions, is_ordered, IsInOrder, LeadsToPosition, OrdersTexts};
 ghost use Rattle.ir_forest.specs.Identifiers.{AreSpelt};
-ghost use Rattle.ir_formats.specs.Words.{token_text};
+ghost use Rattle.ir_formats.specs.Words.{text_of, token_text};
+ghost use Rattle.ir_forest.specs.Meaning.{leaf_in};
 ghost use Rattle.ir_scopes.specs.Scopes.{HasScopeFault, NamesAreApart, value_names, label_names};
 ghost use Rattle.ir_forest.specs.Closed.{IsClosedTree, IsNumbered, IsSameModule};
 ghost use Rattle.ir_rereading.specs.Printable.{CanPrint, IsLayoutOf};
@@ -134,6 +137,14 @@ pub fn texts_have_one_answer()
         → (cs : List ℕ) (f g : TextFault) → IsTextFault l cs f → IsTextFault l cs g → f ≡ g }
     ensures either { (l : Language) (leads : PartPositions) → is_ordered leads (rules_of l.formats) ≡ true
         → (cs : List ℕ) (f : TextFault) (tree : Entity ℕ) → IsTextFault l cs f → Says l cs tree → ⊥ }
+{}
+
+/// What a leaf in range, a name, a number, a width, a text in quotes or a mark, is spelled as is one token, and says the
+/// leaf.
+pub fn leaves_are_read_again()
+    ensures token { (x : Leaf) → IsInRange x → (t : Token) × ReadsAs (leaf_text x) 0 (t ∷ [])
+        × (text_of (leaf_text x) t ≡ leaf_text x) }
+    ensures says { (x : Leaf) → IsInRange x → leaf_in (sort_of x) (leaf_text x) ≡ x }
 {}
 
 /// What is printed of a closed tree is UTF-8, and is read again, as the same tree but for its labels.

@@ -1,5 +1,5 @@
 -- Lists of passes on modules that keep the rules, by the programs before and after.
-use Rattle.std.proofs.Common.{◌≡◌, ℕ, suc, ◌+◌, List, [], ◌∷◌, map, ap, ◌∙◌, subst}
+use Rattle.std.proofs.Common.{◌≡◌, ℕ, suc, ◌+◌, List, [], ◌∷◌, ◌++◌, map, refl, sym, ap, ◌∙◌, subst}
 use Rattle.ir_program.specs.Program.{type_at}
 use Rattle.ir_program.specs.Replacing.{same_value}
 use Rattle.ir_program.specs.declared.handles.Operation.{Operation}
@@ -9,17 +9,18 @@ use Rattle.ir_types.specs.Interned.{key_at}
 use Rattle.kit.specs.Context.{KitContext, KitTree}
 use Rattle.kit.specs.Lawful.{kit_lawful}
 use Rattle.kit.specs.Meaning.{kit}
-use Rattle.kit_behaviour.specs.ConstantPropagation.{all_wanted, KeepsFunctionFacts, IsSccpOfFunctions, propagated}
+use Rattle.kit_behaviour.specs.ConstantPropagation.{used_wanted, KeepsFunctionFacts, IsSccpOfFunctions, propagated}
 use Rattle.kit_behaviour.specs.Facts.{FunctionFacts, AreMostPreciseFacts}
 use Rattle.kit_behaviour.specs.Laws.{AlikeWithin}
 use Rattle.kit_behaviour.specs.Machine.{FunctionsByPath}
-use Rattle.kit_behaviour.specs.PassLists.{Fit, Goal, IsAfter, SameFaces}
+use Rattle.kit_behaviour.specs.PassLists.{Pass, LeanSccpPass, Fit, Goal, IsAfter, IsPass, SameFaces}
 use Rattle.kit_behaviour.specs.Places.{Place}
 use Rattle.kit_behaviour.specs.Rules.{OperationsWithin}
 use Rattle.kit_behaviour.proofs.Lattice.FactLemmas.{best_unique}
-use Rattle.kit_behaviour.proofs.PassListLemmas.{after_alike, after_faces, after_goal, after_rules}
+use Rattle.kit_behaviour.proofs.PassListLemmas.{after_alike, after_faces, after_goal, after_one, after_rules}
 use Rattle.kit_behaviour.proofs.Propagation.BestFactsExist.{best_exists}
 use Rattle.kit_behaviour.proofs.Propagation.FactsByPlace.{facts_stay}
+use Rattle.kit_behaviour.proofs.Propagation.SecondPropagation.{lean_settles}
 use Rattle.kit_ruled_views.specs.Operations.{operations_below}
 use Rattle.kit_ruled_views.proofs.programs.FitPrograms.{fit_program}
 use Rattle.kit_ruled_views.proofs.programs.FunctionSizes.{one_pass, program_within}
@@ -36,7 +37,8 @@ use Rattle.kit_ops.specs.declared.pass.KitPass.TheVariants.{Sccp}
 use Rattle.kit_ruled_views.specs.Ruled.{type_or_first}
 use Rattle.kit_ruled_views.proofs.HandleSameness.{values_apart}
 use Rattle.opt_trees.proofs.FactsKept.{facts_kept}
-use Rattle.irkit_driver.specs.Facts.{TreeFactsStay}
+use Rattle.opt_trees.proofs.Lists.{map-append}
+use Rattle.irkit_driver.specs.Facts.{SecondSccpSettles, TreeFactsStay}
 use Rattle.irkit_driver.specs.Programs.{ArePassed, HasProgram, IsMadeBy, IsModule}
 use Rattle.irkit_refusals.specs.Texts.{IsAcceptedAs}
 
@@ -113,18 +115,41 @@ bound pass t u p q h =
     (module_within h.context h.numbered u q h.last)
 
 -- constant propagation on one program
-propagation : (t u : KitTree) (p q : FunctionsByPath Place) → ArePassed (Sccp ∷ []) t u p q → IsSccpOfFunctions all_wanted p q
-propagation t u p q h = let made = after (Sccp ∷ []) t u p q h in subst (IsSccpOfFunctions all_wanted p) made.2 made.1
+propagation : (t u : KitTree) (p q : FunctionsByPath Place) → ArePassed (Sccp ∷ []) t u p q → IsSccpOfFunctions used_wanted p q
+propagation t u p q h = let made = after (Sccp ∷ []) t u p q h in subst (IsSccpOfFunctions used_wanted p) made.2 made.1
 
 pub facts_are_kept : (t u : KitTree) (p q : FunctionsByPath Place) → ArePassed (Sccp ∷ []) t u p q → (path : List ℕ)
-    (k l : FunctionFacts Place) → AreMostPreciseFacts (p path) k → AreMostPreciseFacts (q path) l → KeepsFunctionFacts all_wanted (p path) k l
+    (k l : FunctionFacts Place) → AreMostPreciseFacts (p path) k → AreMostPreciseFacts (q path) l → KeepsFunctionFacts used_wanted (p path) k l
 facts_are_kept t u p q h path k l best best_after =
     let made = propagation t u p q h in
     let one = best_unique (p path) (made.facts path) k (made.best path) best in
-    let same : q path ≡ propagated all_wanted (p path) k =
-    made.is path ∙ ap (propagated all_wanted (p path)) one in
-    facts_stay all_wanted (p path) k l ((fit (Sccp ∷ []) t u p q h).rules path) best
+    let same : q path ≡ propagated used_wanted (p path) k =
+    made.is path ∙ ap (propagated used_wanted (p path)) one in
+    facts_stay used_wanted (p path) k l ((fit (Sccp ∷ []) t u p q h).rules path) best
     (subst (λ f. AreMostPreciseFacts f l) same best_after)
 
 pub tree_facts_stay : TreeFactsStay
-tree_facts_stay t after k l made best best_after = facts_kept kit t after k l kit_lawful made best best_after
+tree_facts_stay w t after k l made best best_after = facts_kept kit w t after k l kit_lawful made best best_after
+
+-- what a list of passes makes, in two parts
+parts : (xs ys : List Pass) (p r : FunctionsByPath Place) → IsAfter (xs ++ ys) p r
+    → (n : FunctionsByPath Place) × IsAfter xs p n × IsAfter ys n r
+parts [] ys p r h = (p, refl, h)
+parts (x ∷ xs) ys p r h = let m = parts xs ys h.0 r h.2 in (m.0, (h.0, h.1, m.1), m.2)
+
+pub second_settles : SecondSccpSettles
+second_settles passes t u v p q r one two =
+    let xs = map pass_of passes in
+    let a = parts xs (LeanSccpPass ∷ []) p q
+    (subst (λ l. IsAfter l p q) (map-append pass_of passes (Sccp ∷ [])) (after (passes ++ Sccp ∷ []) t u p q one)) in
+    let b = parts xs (LeanSccpPass ∷ LeanSccpPass ∷ []) p r
+    (subst (λ l. IsAfter l p r) (map-append pass_of passes (Sccp ∷ Sccp ∷ []))
+    (after (passes ++ Sccp ∷ Sccp ∷ []) t v p r two)) in
+    let rules = (fit (passes ++ Sccp ∷ []) t u p q one).rules in
+    let begins : b.0 ≡ a.0 = after_one xs p b.0 a.0 rules b.1 a.1 in
+    let first : IsAfter (LeanSccpPass ∷ LeanSccpPass ∷ []) a.0 r =
+    subst (λ z. IsAfter (LeanSccpPass ∷ LeanSccpPass ∷ []) z r) begins b.2 in
+    let kept = after_rules xs p a.0 rules a.1 in
+    let once : first.0 ≡ q = after_one (LeanSccpPass ∷ []) a.0 first.0 q kept (first.0, first.1, refl) a.2 in
+    let again : IsAfter (LeanSccpPass ∷ []) first.0 r = first.2 in
+    sym again.2 ∙ lean_settles a.0 first.0 again.0 kept first.1 again.1 ∙ once

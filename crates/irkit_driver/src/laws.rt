@@ -17,7 +17,7 @@ ghost use Rattle.kit_optimiser.specs.Passed.{pass_of};
 ghost use Rattle.kit_ops.specs.declared.pass.KitPass.{KitPass};
 ghost use Rattle.irkit_driver.specs.Executions.{LongerShowsMore, OneOutcome, OnePassExecutesAlike, OneRefusal};
 ghost use Rattle.irkit_driver.specs.Executions.{SameAnywhere, WrittenExecuteAlike, WrittenRefuseAlike};
-ghost use Rattle.irkit_driver.specs.Facts.{FactsExist, PassedFactsStay, TreeFactsStay};
+ghost use Rattle.irkit_driver.specs.Facts.{FactsExist, PassedFactsStay, SecondSccpSettles, TreeFactsStay};
 ghost use Rattle.irkit_running.specs.Outcomes.{RunGives};
 ghost use Rattle.irkit_driver.specs.Programs.{ArePassed, AreRun, IsMadeBy, IsModule};
 ghost use Rattle.irkit_driver.specs.Programs.{operations_said, SaysProgram};
@@ -107,11 +107,13 @@ pub fn unchanged()
 }
 
 /// Constant propagation on a module that keeps the rules leaves known what was known: the most precise facts of each
-/// function, of which there are some, say of each old value and block what they said before. The same is so of trees.
+/// function, of which there are some, say of each old value and block what they said before. The same is so of trees. A
+/// second time, right behind the first, changes nothing.
 pub fn facts_kept()
     ensures exist { FactsExist }
     ensures stay { PassedFactsStay }
     ensures trees { TreeFactsStay }
+    ensures settled { SecondSccpSettles }
 {}
 
 /// The rest of a list of passes, run on the text that its beginning gave, gives the module that the whole list gives:

@@ -11,7 +11,7 @@ use Rattle.ir_print.specs.declared.format.Part.TheVariants as part
 use Rattle.ir_print.specs.declared.format.LeafValue.{LeafValue}
 use Rattle.ir_print.specs.declared.format.LeafValue.TheVariants as read
 use Rattle.ir_print.specs.declared.format.ValueSort.TheVariants as sorts
-use Rattle.ir_print.specs.Pieces.{Leaf, value_of_kind, list, item, chosen, operands, successor, region, leaf, name, number, unsigned, width, quoted, ValueTree, Pieces}
+use Rattle.ir_print.specs.Pieces.{Leaf, value_of_kind, list, item, chosen, operands, successor, region, leaf, name, number, unsigned, width, quoted, mark, ValueTree, Pieces}
 use Rattle.ir_print.specs.Shown.{Saying, IsLeaf, ShowsPart, ShowsParts}
 use Rattle.kit.specs.Parts.{size_part, text_part, choice_part, list_part}
 use Rattle.kit.specs.Says.{is_size, is_text, refused_list}
@@ -70,10 +70,12 @@ module _ {D K A T : Type 0} where
   size_leaf p (read.Digits o) (number b m) n q e h = absurd h
   size_leaf p (read.Digits o) (width sign bits) n q e h = absurd h
   size_leaf p (read.Digits o) (quoted cs) n q e h = absurd h
+  size_leaf p (read.Digits o) (mark m) n q e h = absurd h
   size_leaf p (read.Name i) x n q e h = none_some n (sym (ap size_part q) ∙ e)
   size_leaf p (read.Number o) x n q e h = none_some n (sym (ap size_part q) ∙ e)
   size_leaf p (read.Width s o) x n q e h = none_some n (sym (ap size_part q) ∙ e)
   size_leaf p (read.Text s) x n q e h = none_some n (sym (ap size_part q) ∙ e)
+  size_leaf p (read.Mark o) x n q e h = none_some n (sym (ap size_part q) ∙ e)
 
   great_leaf : (p : Part D K A T) (l : LeafValue) (m : ℕ) → p ≡ part.Leaf l → size_part p ≡ None → IsLeaf l (unsigned m) → nat_lt m (2 ^ 32) ≡ false
   great_leaf p (read.Digits (Some k)) m q e h = ap (λ (i : ℕ). nat_lt i (2 ^ 32)) (sym h) ∙ where_great (nat_lt k (2 ^ 32)) k (sym (ap size_part q) ∙ e)
@@ -82,6 +84,7 @@ module _ {D K A T : Type 0} where
   great_leaf p (read.Number o) m q e h = absurd h
   great_leaf p (read.Width s o) m q e h = absurd h
   great_leaf p (read.Text s) m q e h = absurd h
+  great_leaf p (read.Mark o) m q e h = absurd h
 
   text_leaf : (p : Part D K A T) (l : LeafValue) (x : Leaf) (bytes : List ℕ) → p ≡ part.Leaf l → text_part p ≡ Some bytes → IsLeaf l x → x ≡ quoted (chars bytes)
   text_leaf p (read.Text s) (quoted cs) bytes q e h =
@@ -92,10 +95,12 @@ module _ {D K A T : Type 0} where
   text_leaf p (read.Text s) (number b m) bytes q e h = absurd h
   text_leaf p (read.Text s) (unsigned m) bytes q e h = absurd h
   text_leaf p (read.Text s) (width sign bits) bytes q e h = absurd h
+  text_leaf p (read.Text s) (mark m) bytes q e h = absurd h
   text_leaf p (read.Name i) x bytes q e h = none_some bytes (sym (ap text_part q) ∙ e)
   text_leaf p (read.Number o) x bytes q e h = none_some bytes (sym (ap text_part q) ∙ e)
   text_leaf p (read.Digits o) x bytes q e h = none_some bytes (sym (ap text_part q) ∙ e)
   text_leaf p (read.Width s o) x bytes q e h = none_some bytes (sym (ap text_part q) ∙ e)
+  text_leaf p (read.Mark o) x bytes q e h = none_some bytes (sym (ap text_part q) ∙ e)
 
   no_text : (p : Part D K A T) (l : LeafValue) (cs : List ℕ) → p ≡ part.Leaf l → text_part p ≡ None → IsLeaf l (quoted cs) → ⊥
   no_text p (read.Text s) cs q e h = none_some (string_bytes s) (sym e ∙ ap text_part q)
@@ -103,6 +108,7 @@ module _ {D K A T : Type 0} where
   no_text p (read.Number o) cs q e h = h
   no_text p (read.Digits o) cs q e h = h
   no_text p (read.Width s o) cs q e h = h
+  no_text p (read.Mark o) cs q e h = h
 
 module _ {D K A T : Type 0} (says : Saying K A T) (types : List T) where
   -- a number of at most 32 bits is that piece
@@ -126,6 +132,7 @@ module _ {D K A T : Type 0} (says : Saying K A T) (types : List T) where
   not_size p (node (leaf (number b m)) ts) e h = refl
   not_size p (node (leaf (width sign bits)) ts) e h = refl
   not_size p (node (leaf (quoted cs)) ts) e h = refl
+  not_size p (node (leaf (mark m)) ts) e h = refl
   not_size p (node _ ts) e h = refl
 
   -- a text in quotes is that piece
@@ -147,6 +154,7 @@ module _ {D K A T : Type 0} (says : Saying K A T) (types : List T) where
   not_text p (node (leaf (number b m)) ts) e h = refl
   not_text p (node (leaf (unsigned m)) ts) e h = refl
   not_text p (node (leaf (width sign bits)) ts) e h = refl
+  not_text p (node (leaf (mark m)) ts) e h = refl
   not_text p (node _ ts) e h = refl
 
   -- a choice is the piece of what is chosen

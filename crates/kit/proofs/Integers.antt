@@ -6,7 +6,7 @@ use Rattle.std.proofs.lemmas.Bool.Decides.{nat_tests}
 use Rattle.ir_names.specs.Tree.{LabelledTree, node, no_tree, a_tree, label_of}
 use Rattle.ir_print.specs.declared.format.Number.{Number}
 use Rattle.ir_print.specs.declared.format.Part.{Part}
-use Rattle.ir_print.specs.Pieces.{leaf, width, list, item, region, name, operands, successor, number, value_of_kind, ValueTree, Pieces, chosen, unsigned, quoted}
+use Rattle.ir_print.specs.Pieces.{leaf, width, list, item, region, name, operands, successor, number, value_of_kind, ValueTree, Pieces, chosen, unsigned, quoted, mark}
 use Rattle.ir_print.specs.Shown.{Said, IsNumber, said_leaf, alone, ShowsPart, ShowsParts, ShowsAttribute}
 use Rattle.kit_ops.specs.declared.kinds.KitOp.{KitOp}
 use Rattle.kit_ops.specs.declared.types.KitType.{KitType}
@@ -89,6 +89,7 @@ module _ {D : Type 0} where
   no_values types q (node (leaf (number b m)) ts) e h = refl
   no_values types q (node (leaf (unsigned m)) ts) e h = refl
   no_values types q (node (leaf (quoted cs)) ts) e h = refl
+  no_values types q (node (leaf (mark m)) ts) e h = refl
   no_values types q (node (leaf (width sign bits)) ts) e h = too_wide bits (wide_leaf q h.0 sign bits h.1 e h.2)
 
   -- what is no number of 64 bits is none of the type
@@ -104,6 +105,7 @@ module _ {D : Type 0} where
   no_number types w most p (node (leaf (number b m)) ts) e h = range_fails w b m (let none = number_none p h.0 b m h.1 e h.2 in too_great w b m most none.0 none.1 none.2)
   no_number types w most p (node (leaf (unsigned m)) ts) e h = refl
   no_number types w most p (node (leaf (quoted cs)) ts) e h = refl
+  no_number types w most p (node (leaf (mark m)) ts) e h = refl
   no_number types w most p (node (leaf (width sign bits)) ts) e h = refl
 
   pub length_refused : (types : List KitType) (parts : List (Part D KitOp KitAttr KitType)) (ps : Pieces) → (length parts ≡ 2 → ⊥) → ShowsParts says types parts ps → refused_attribute 0 ps ≡ Some 0

@@ -12,7 +12,7 @@ use Rattle.ir_print.specs.declared.format.Number.{Number}
 use Rattle.ir_print.specs.declared.format.Part.{Part}
 use Rattle.ir_print.specs.declared.format.Part.TheVariants.{outs-List, outs-Type, outs-Attribute, outs-Operands, outs-Successor, outs-Region, outs-Leaf, outs-Choice}
 use Rattle.ir_print.specs.declared.format.Part.TheVariants as part
-use Rattle.ir_print.specs.Pieces.{Leaf, value_of_kind, list, item, chosen, operands, successor, region, leaf, name, number, unsigned, width, quoted, ValueTree, Pieces}
+use Rattle.ir_print.specs.Pieces.{Leaf, value_of_kind, list, item, chosen, operands, successor, region, leaf, name, number, unsigned, width, quoted, mark, ValueTree, Pieces}
 use Rattle.ir_print.specs.Shown.{Saying, IsNumber, IsWidth, IsLeaf, ShowsType, ShowsAttribute, ShowsPart, ShowsParts, ShowsMembers}
 use Rattle.kit_ops.specs.declared.types.IntegerType.{IntegerType}
 use Rattle.kit.specs.Parts.{number_part, integer_part, type_part, name_part, region_part, attribute_part, operands_part, successor_part, is_one_operand, list_part}
@@ -81,10 +81,12 @@ module _ {D K A T : Type 0} where
   name_leaf p (read.Name i) (unsigned m) id q e h = absurd h
   name_leaf p (read.Name i) (width sign bits) id q e h = absurd h
   name_leaf p (read.Name i) (quoted cs) id q e h = absurd h
+  name_leaf p (read.Name i) (mark m) id q e h = absurd h
   name_leaf p (read.Number o) x id q e h = none_some id (sym (ap name_part q) ∙ e)
   name_leaf p (read.Digits o) x id q e h = none_some id (sym (ap name_part q) ∙ e)
   name_leaf p (read.Width sign o) x id q e h = none_some id (sym (ap name_part q) ∙ e)
   name_leaf p (read.Text s) x id q e h = none_some id (sym (ap name_part q) ∙ e)
+  name_leaf p (read.Mark o) x id q e h = none_some id (sym (ap name_part q) ∙ e)
 
   no_name : (p : Part D K A T) (l : LeafValue) (cs : List ℕ) → p ≡ part.Leaf l → name_part p ≡ None → IsLeaf l (name cs) → ⊥
   no_name p (read.Name i) cs q e h = none_some i (sym e ∙ ap name_part q)
@@ -92,6 +94,7 @@ module _ {D K A T : Type 0} where
   no_name p (read.Digits o) cs q e h = h
   no_name p (read.Width sign o) cs q e h = h
   no_name p (read.Text s) cs q e h = h
+  no_name p (read.Mark o) cs q e h = h
 
   number_leaf : (p : Part D K A T) (l : LeafValue) (x : Leaf) (n : Number) → p ≡ part.Leaf l → number_part p ≡ Some n → IsLeaf l x → x ≡ number n.is_negative n.magnitude
   number_leaf p (read.Number o) (number b m) n q e h = number_bits b m o n (sym (ap number_part q) ∙ e) h
@@ -99,10 +102,12 @@ module _ {D K A T : Type 0} where
   number_leaf p (read.Number o) (unsigned m) n q e h = absurd h
   number_leaf p (read.Number o) (width sign bits) n q e h = absurd h
   number_leaf p (read.Number o) (quoted cs) n q e h = absurd h
+  number_leaf p (read.Number o) (mark m) n q e h = absurd h
   number_leaf p (read.Name i) x n q e h = none_some n (sym (ap number_part q) ∙ e)
   number_leaf p (read.Digits o) x n q e h = none_some n (sym (ap number_part q) ∙ e)
   number_leaf p (read.Width sign o) x n q e h = none_some n (sym (ap number_part q) ∙ e)
   number_leaf p (read.Text s) x n q e h = none_some n (sym (ap number_part q) ∙ e)
+  number_leaf p (read.Mark o) x n q e h = none_some n (sym (ap number_part q) ∙ e)
 
   pub number_none : (p : Part D K A T) (l : LeafValue) (b : Bool) (m : ℕ) → p ≡ part.Leaf l → number_part p ≡ None → IsLeaf l (number b m) → (o : Option Number) × (o ≡ None) × IsNumber o b m
   number_none p (read.Number o) b m q e h = (o, sym (ap number_part q) ∙ e, h)
@@ -110,6 +115,7 @@ module _ {D K A T : Type 0} where
   number_none p (read.Digits o) b m q e h = absurd h
   number_none p (read.Width sign o) b m q e h = absurd h
   number_none p (read.Text s) b m q e h = absurd h
+  number_none p (read.Mark o) b m q e h = absurd h
 
   width_leaf : (p : Part D K A T) (l : LeafValue) (x : Leaf) (i : IntegerType) → p ≡ part.Leaf l → integer_part p ≡ Some i → IsLeaf l x → x ≡ width i.signedness i.width
   width_leaf p (read.Width s o) (width sign bits) i q e h =
@@ -118,10 +124,12 @@ module _ {D K A T : Type 0} where
   width_leaf p (read.Width s o) (number b m) i q e h = absurd h
   width_leaf p (read.Width s o) (unsigned m) i q e h = absurd h
   width_leaf p (read.Width s o) (quoted cs) i q e h = absurd h
+  width_leaf p (read.Width s o) (mark m) i q e h = absurd h
   width_leaf p (read.Name id) x i q e h = none_some i (sym (ap integer_part q) ∙ e)
   width_leaf p (read.Number o) x i q e h = none_some i (sym (ap integer_part q) ∙ e)
   width_leaf p (read.Digits o) x i q e h = none_some i (sym (ap integer_part q) ∙ e)
   width_leaf p (read.Text s) x i q e h = none_some i (sym (ap integer_part q) ∙ e)
+  width_leaf p (read.Mark o) x i q e h = none_some i (sym (ap integer_part q) ∙ e)
 
   pub wide_leaf : (p : Part D K A T) (l : LeafValue) (sign : Signedness) (bits : ℕ) → p ≡ part.Leaf l → integer_part p ≡ None → IsLeaf l (width sign bits) → 2 ^ 32 ≤ bits
   wide_leaf p (read.Width s o) sign bits q e h = wide s bits o (sym (ap integer_part q) ∙ e) h.1
@@ -129,6 +137,7 @@ module _ {D K A T : Type 0} where
   wide_leaf p (read.Number o) sign bits q e h = absurd h
   wide_leaf p (read.Digits o) sign bits q e h = absurd h
   wide_leaf p (read.Text s) sign bits q e h = absurd h
+  wide_leaf p (read.Mark o) sign bits q e h = absurd h
 
 module _ {D K A T : Type 0} (says : Saying K A T) (types : List T) where
   -- a name is the piece that names it
@@ -159,6 +168,7 @@ module _ {D K A T : Type 0} (says : Saying K A T) (types : List T) where
   not_name p (node (leaf (unsigned m)) ts) e h = refl
   not_name p (node (leaf (width sign bits)) ts) e h = refl
   not_name p (node (leaf (quoted cs)) ts) e h = refl
+  not_name p (node (leaf (mark m)) ts) e h = refl
 
   -- a type is the piece of what its handle stands for
   pub type_shown : (p : Part D K A T) (x : TypeHandle) (t : ValueTree) → type_part p ≡ Some x → ShowsPart says types p t → (n : ℕ) × (ts : Pieces) × (t ≡ node (value_of_kind sorts.«Type» n) ts) × ShowsType says types x (node (value_of_kind sorts.«Type» n) ts)
@@ -337,6 +347,7 @@ module _ {D K A T : Type 0} (says : Saying K A T) (types : List T) where
   not_width p (node (leaf (number b m)) ts) e h = refl
   not_width p (node (leaf (unsigned m)) ts) e h = refl
   not_width p (node (leaf (quoted cs)) ts) e h = refl
+  not_width p (node (leaf (mark m)) ts) e h = refl
   not_width p (node (leaf (width sign bits)) ts) e h = let big = wide_leaf p h.0 sign bits h.1 e h.2 in grind (arith, nat_tests)
 
   -- parts are as many pieces

@@ -7,6 +7,7 @@ pub mod Shapes
 pub mod Executed
 pub mod Safe
 pub mod Functions
+pub mod ModuleTables
 pub mod Moves
 pub mod Paths
 pub mod Pairing

@@ -17,7 +17,7 @@ use Rattle.kit_checks.proofs.Down.{both, step_to}
 use Rattle.kit_places.specs.declared.places.Place.{Place}
 use Rattle.kit_places.specs.Store.{is_name, is_module, attribute_of, members, function_named, module_named, locate}
 use Rattle.kit_places.specs.Placed.{place_of}
-use Rattle.kit_interpreter.specs.Lowering.{FunctionsCanRun}
+use Rattle.kit_interpreter.specs.Lowering.{ModuleCanRun}
 use Rattle.kit_interpreter.specs.Running.{PathCanRun}
 use Rattle.kit_places.proofs.Located.{first_listed}
 use Rattle.kit_execution.specs.Obeying.{ObeysRules}
@@ -27,6 +27,7 @@ use Rattle.kit_execution.proofs.First.{first_passes}
 use Rattle.kit_execution.proofs.Words.{module_kind}
 use Rattle.kit_execution.proofs.Bodies.{KitSite}
 use Rattle.kit_execution.proofs.Functions.{keeps, IsModuleAt, body, member, functions_can_run, callees_safe}
+use Rattle.kit_execution.proofs.ModuleTables.{symbol_table}
 use Rattle.kit_execution.proofs.Safe.{IsCallee}
 use Rattle.kit_execution.proofs.Moves.{moves_on}
 
@@ -74,8 +75,11 @@ module _ (s : KitContext) (t : KitTree) (obeys : (r : Rule) → KeptEverywhere (
     sited : IsSited p
     sited = located root (record { op = t; around = None }) root_is (map text_of path) p is
 
-    pub place_can_run : FunctionsCanRun s p.within
-    place_can_run = functions_can_run s t obeys p.within sited.site sited.at
+    pub place_can_run : ModuleCanRun s p.within
+    place_can_run = record {
+      table = symbol_table s t obeys p.within sited.site sited.at;
+      functions = functions_can_run s t obeys p.within sited.site sited.at;
+    }
 
     pub place_moves : NeverStays s p
     place_moves = moves_on s p.within (callees_safe s t obeys p.within sited.site sited.at) p.function sited.callee

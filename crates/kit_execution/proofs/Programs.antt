@@ -167,7 +167,7 @@ module _ (s : KitContext) (root : Ptr Operation) (t : KitTree) (numbered : List 
     function_runs : (name : ℕ) (f : Ptr Operation) → named name ≡ Some f → CanRun s place.within f
     function_runs name f found =
         let text = text_back s.program numbered place.within name f found in
-        can_run s root given.obeys (t, given.stands) path place is text.0 f
+        (can_run s root given.obeys (t, given.stands) path place is).functions text.0 f
         (sym (agree text.0) ∙ ap named (sym text.1) ∙ found)
 
     tree_found : (f : Ptr Operation) (x : Option (Ptr Operation)) (o : Option KitTree) → Agree s.program x o →

@@ -1,8 +1,7 @@
 -- How the functions of a module are made into a flat module.
-use Rattle.std.specs.Prelude.{◌≡◌, ◌≢◌, ◌⊎◌, ℕ, ◌<◌, List, map, length, Option, Some, option_map, slice_get, String}
-use Rattle.std.specs.Map.{lookup}
-use Rattle.std.specs.Str.{bytes_eq}
-use Rattle.std.specs.String.{string_bytes}
+use Rattle.std.specs.Prelude.{◌≡◌, ◌≢◌, ◌⊎◌, ℕ, ◌<◌, Bool, true, List, map, length, Option, Some, option_map, option_and_then, slice_get}
+use Rattle.std.specs.List.{position}
+use Rattle.ir_names.specs.declared.interfaces.OpInterface.TheVariants as iface
 use Rattle.ir_program.specs.Program.{Program, results_at, arguments_at}
 use Rattle.ir_program.specs.Lists.{operations_in}
 use Rattle.ir_program.specs.Rows.{operands_at, successors_at}
@@ -11,8 +10,16 @@ use Rattle.ir_program.specs.declared.handles.Ptr.{Ptr}
 use Rattle.ir_program.specs.declared.handles.Operation.{Operation}
 use Rattle.ir_program.specs.declared.handles.BasicBlock.{BasicBlock}
 use Rattle.ir_program.specs.declared.handles.Value.{Value}
+use Rattle.ir_symbols.specs.Collections.{TableEntries, same_handle, table_in}
+use Rattle.ir_symbols.specs.Contents.{symbol_name}
+use Rattle.ir_symbols.specs.Symbols.{HasOneBlock, IsTable}
+use Rattle.ir_symbols.specs.Tables.{entry_at, IsTableOf, SharesName}
+use Rattle.ir_symbols.specs.declared.tables.SymbolTable.{SymbolTable}
 use Rattle.ir_trees.specs.Searched.{Lists}
+use Rattle.kit.specs.Builtin.{held_identifier}
 use Rattle.kit.specs.Context.{KitContext, KitProgram}
+use Rattle.kit.specs.Meaning.{KitOperation}
+use Rattle.kit_ops.specs.Table.{has_interface}
 use Rattle.kit_flat.specs.Machine.{Other}
 use Rattle.kit_flat.specs.Forms.{Form, rename_form, form_view}
 use Rattle.kit_flat.specs.declared.forming.FlatForm.{FlatForm}
@@ -23,7 +30,7 @@ use Rattle.kit_flat.specs.declared.flat.Instruction.{Instruction}
 use Rattle.kit_flat.specs.declared.flat.FlatBlock.{FlatBlock}
 use Rattle.kit_flat.specs.declared.flat.FlatFunction.{FlatFunction}
 use Rattle.kit_places.specs.Numbers.{values_of, value_at, block_with, operation_with}
-use Rattle.kit_places.specs.Store.{body_of, function_named, is_function_named, first_with, op_at, module_code}
+use Rattle.kit_places.specs.Store.{body_of, function_named, is_function_named, op_at, module_code}
 
 -- ---- what it needs
 
@@ -52,23 +59,57 @@ pub record CanRun (s : KitContext) (m f : Ptr Operation) : Type 0 where
 abbrev pub FunctionsCanRun : KitContext → Ptr Operation → Type 0
 FunctionsCanRun s m = (name : List ℕ) (f : Ptr Operation) → function_named s.program m name ≡ Some f → CanRun s m f
 
+-- the name that an operation of `kit` has as a symbol
+abbrev pub symbol_of : KitOperation → Option (List ℕ)
+symbol_of = symbol_name has_interface held_identifier
+
+-- whether it holds a symbol table
+abbrev pub holds_table : KitOperation → Bool
+holds_table o = has_interface o.kind iface.SymbolTable
+
+-- a module has a symbol table: it has one region, with one block, of which no two symbols have one name
+pub record HasSymbolTable (c : KitProgram) (m : Ptr Operation) : Type 0 where
+  pub holds : IsTable holds_table c m
+  pub body : HasOneBlock c m
+  pub apart : SharesName symbol_of holds_table c m → ⊥
+
+-- a module can run: it has a symbol table, and each of its functions can run
+pub record ModuleCanRun (s : KitContext) (m : Ptr Operation) : Type 0 where
+  pub table : HasSymbolTable s.program m
+  pub functions : FunctionsCanRun s m
+
 -- ---- tables of functions
 
--- the number of a name
-abbrev pub number_of : {K : Type 0} → List (String K × ℕ) → List ℕ → Option ℕ
-number_of names name = lookup (λ k. bytes_eq name (string_bytes k)) names
+-- the operation is a function that has a name
+abbrev pub IsNamedFunction : KitProgram → Ptr Operation → Type 0
+IsNamedFunction c f = (name : List ℕ) × (is_function_named c name f ≡ true)
+
+-- these are the functions that have names among the operations
+pub record AreNamedFunctions (c : KitProgram) (ops handles : List (Ptr Operation)) : Type 0 where
+  pub each : (f : Ptr Operation) → Lists handles f → Lists ops f × IsNamedFunction c f
+  pub all : (f : Ptr Operation) → Lists ops f → IsNamedFunction c f → Lists handles f
+
+-- the tables have the one of a module
+pub record HaveTableOf (c : KitProgram) (m : Ptr Operation) (tables : TableEntries) : Type 0 where
+  pub table : SymbolTable
+  pub kept : table_in tables m ≡ Some table
+  pub is : IsTableOf symbol_of holds_table c m table
+
+-- the number of a name: the index, among these functions, of the one that the table of a module has under it
+abbrev pub number_of : TableEntries → Ptr Operation → List (Ptr Operation) → List ℕ → Option ℕ
+number_of tables m handles name = option_and_then (λ f. position (same_handle f) handles)
+    (option_and_then (λ table. entry_at table name) (table_in tables m))
 
 -- names have the numbers of the operations that a search finds for them, and each operation is found for some name
-pub record IsTableOf {K : Type 0} (found : List ℕ → Option (Ptr Operation)) (handles : List (Ptr Operation))
-    (names : List (String K × ℕ)) : Type 0 where
-  pub named : (name : List ℕ) → option_map (operation_with handles) (number_of names name) ≡ found name
-  pub below : (name : List ℕ) (i : ℕ) → number_of names name ≡ Some i → i < length handles
+pub record NumbersFunctions (found : List ℕ → Option (Ptr Operation)) (handles : List (Ptr Operation))
+    (number : List ℕ → Option ℕ) : Type 0 where
+  pub named : (name : List ℕ) → option_map (operation_with handles) (number name) ≡ found name
+  pub below : (name : List ℕ) (i : ℕ) → number name ≡ Some i → i < length handles
   pub back : (i : ℕ) (f : Ptr Operation) → slice_get handles i ≡ Some f → (name : List ℕ) × (found name ≡ Some f)
 
--- the table of the functions among these operations
-abbrev pub IsFunctionTable : {K : Type 0} → KitProgram → List (Ptr Operation) → List (Ptr Operation) → List (String K × ℕ)
-    → Type 0
-IsFunctionTable {K} c ops handles names = IsTableOf {K = K} (λ name. first_with (is_function_named c name) ops) handles names
+-- the numbers are those of the functions of the module
+abbrev pub IsFunctionTable : KitProgram → Ptr Operation → List (Ptr Operation) → (List ℕ → Option ℕ) → Type 0
+IsFunctionTable c m handles number = NumbersFunctions (function_named c m) handles number
 
 -- ---- what is made
 

@@ -15,7 +15,7 @@ use Rattle.kit_interpreter.specs.declared.executing.ExecFault.TheVariants.{Memor
 use Rattle.kit_places.specs.declared.places.Place.{Place}
 use Rattle.kit_places.specs.Store.{body_of, width_at, module_code}
 use Rattle.kit_places.specs.Placed.{place_of}
-use Rattle.kit_interpreter.specs.Lowering.{FunctionsCanRun}
+use Rattle.kit_interpreter.specs.Lowering.{ModuleCanRun}
 
 -- the number is below 2 to the power of the width, where there is one
 abbrev pub FitsWidth : ℕ → Option ℕ → Type 0
@@ -33,9 +33,9 @@ abbrev pub TakesNumbers : KitContext → Ptr Operation → List ℕ → Type 0
 TakesNumbers s f xs = (b : Ptr BasicBlock) × (slice_get (body_of s.program f) 0 ≡ Some b)
     × AreFitting s (arguments_at s.program b) xs
 
--- all functions that a run may call can run
+-- the module of the function at the path can run: all functions that a run may call are its
 abbrev pub PathCanRun : KitContext → Ptr Operation → List Identifier → Type 0
-PathCanRun s root path = (p : Place) → place_of s root path ≡ Some p → FunctionsCanRun s p.within
+PathCanRun s root path = (p : Place) → place_of s root path ≡ Some p → ModuleCanRun s p.within
 
 -- an outcome is that of at most n steps of the machine from the function's first state; a wrong path leads to no
 -- function; and wrong arguments are none that

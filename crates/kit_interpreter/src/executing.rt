@@ -7,7 +7,7 @@ ghost use Rattle.ir_program.specs.declared.handles.Operation.{Operation};
 ghost use Rattle.kit_flat.specs.Machine.{run, start};
 ghost use Rattle.kit_flat.specs.Shows.{OutcomeShows};
 ghost use Rattle.kit_places.specs.Store.{function_named, width_at, module_code};
-ghost use Rattle.kit_interpreter.specs.Lowering.{FunctionsCanRun};
+ghost use Rattle.kit_interpreter.specs.Lowering.{ModuleCanRun};
 ghost use Rattle.kit_interpreter.specs.Running.{FitsWidth, AreFitting, TakesNumbers, PathCanRun, Runs};
 
 use crate::functions::functions_of;
@@ -117,7 +117,7 @@ fn run_function(
 ) -> Result<Outcome, AllocError>
     requires live { IsSome (operation_at ctx.now.program within) }
     requires named { IsSome (function_named ctx.now.program within name.now) }
-    requires can_run { FunctionsCanRun ctx.now within }
+    requires can_run { ModuleCanRun ctx.now within }
     ensures { IfOk result (λ outcome. (f : Ptr Operation) → function_named ctx.now.program within name.now ≡ Some f
         → OutcomeShows (run same_value (module_code ctx.now within) limit
         (start same_value (module_code ctx.now within) f numbers.now)) outcome) }

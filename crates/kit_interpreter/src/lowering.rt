@@ -8,8 +8,8 @@ ghost use Rattle.kit_ops.specs.Keys.{constant_value, segment_sizes, callee};
 ghost use Rattle.kit_flat.specs.Formed.{FormFits};
 ghost use Rattle.opt_inside.specs.Numbered.{NumbersInside, numbers_of};
 ghost use Rattle.kit_places.specs.Numbers.{block_with, operation_with};
-ghost use Rattle.kit_places.specs.Store.{attribute_of, constant_form, conditional_form, call_form, form_at, function_named, members};
-ghost use Rattle.kit_interpreter.specs.Lowering.{IsFunctionTable, IsFormOf, IsLowerable, IsBlockNumbered, FunctionsCanRun, CanRun, LowersOperation, LowersBlock, LowersFunction, LowersModule};
+ghost use Rattle.kit_places.specs.Store.{attribute_of, constant_form, conditional_form, call_form, form_at, function_named};
+ghost use Rattle.kit_interpreter.specs.Lowering.{number_of, IsFunctionTable, IsFormOf, IsLowerable, IsBlockNumbered, FunctionsCanRun, CanRun, LowersOperation, LowersBlock, LowersFunction, LowersModule};
 
 use crate::functions::Functions;
 use crate::numbering::{
@@ -57,12 +57,12 @@ fn conditional(ctx: &Context<Kit>, op: Ptr<Operation>) -> Option<FlatForm>
 /// The form of a call.
 fn call(ctx: &Context<Kit>, functions: &Functions, op: Ptr<Operation>) -> Option<FlatForm>
     requires live { IsSome (operation_at ctx.now.program op) }
-    requires table { IsFunctionTable ctx.now.program (members ctx.now.program functions.now.outer)
-        functions.now.handles.items functions.now.names.entries }
-    ensures form { IsFormOf functions.now.handles.items
+    requires table { IsFunctionTable ctx.now.program functions.now.outer functions.now.handles.keys
+        (number_of functions.now.tables.tables.entries functions.now.outer functions.now.handles.keys) }
+    ensures form { IsFormOf functions.now.handles.keys
         (call_form (function_named ctx.now.program functions.now.outer) (attribute_of ctx.now.program op callee))
         result }
-    ensures fits { IfSome result (FormFits (length functions.now.handles.items)) }
+    ensures fits { IfSome result (FormFits (length functions.now.handles.keys)) }
 {
     match attribute(ctx, op, keys::CALLEE) {
         Some(KitAttr::Identifier(name)) => match functions.number_of(name.as_str()) {
@@ -76,10 +76,10 @@ fn call(ctx: &Context<Kit>, functions: &Functions, op: Ptr<Operation>) -> Option
 /// The form of an operation, if the machine may execute it.
 fn form(ctx: &Context<Kit>, functions: &Functions, op: Ptr<Operation>) -> Option<FlatForm>
     requires live { IsSome (operation_at ctx.now.program op) }
-    requires table { IsFunctionTable ctx.now.program (members ctx.now.program functions.now.outer)
-        functions.now.handles.items functions.now.names.entries }
-    ensures form { IsFormOf functions.now.handles.items (form_at ctx.now functions.now.outer op) result }
-    ensures fits { IfSome result (FormFits (length functions.now.handles.items)) }
+    requires table { IsFunctionTable ctx.now.program functions.now.outer functions.now.handles.keys
+        (number_of functions.now.tables.tables.entries functions.now.outer functions.now.handles.keys) }
+    ensures form { IsFormOf functions.now.handles.keys (form_at ctx.now functions.now.outer op) result }
+    ensures fits { IfSome result (FormFits (length functions.now.handles.keys)) }
 {
     match op.kind(ctx) {
         KitOp::Module => None,
@@ -109,11 +109,11 @@ fn lower_operation(
     op: Ptr<Operation>,
 ) -> Result<Instruction, AllocError>
     requires live { IsSome (operation_at ctx.now.program op) }
-    requires table { IsFunctionTable ctx.now.program (members ctx.now.program functions.now.outer)
-        functions.now.handles.items functions.now.names.entries }
+    requires table { IsFunctionTable ctx.now.program functions.now.outer functions.now.handles.keys
+        (number_of functions.now.tables.tables.entries functions.now.outer functions.now.handles.keys) }
     requires numbered { IsLowerable ctx.now functions.now.outer values.now.keys blocks.now.keys op }
     ensures { IfOk result (LowersOperation ctx.now functions.now.outer values.now.keys blocks.now.keys
-        functions.now.handles.items op) }
+        functions.now.handles.keys op) }
 {
     let shape = match form(ctx, functions, op) {
         Some(shape) => shape,
@@ -138,11 +138,11 @@ fn lower_block(
     block: Ptr<BasicBlock>,
 ) -> Result<FlatBlock, AllocError>
     requires live { IsSome (block_at ctx.now.program block) }
-    requires table { IsFunctionTable ctx.now.program (members ctx.now.program functions.now.outer)
-        functions.now.handles.items functions.now.names.entries }
+    requires table { IsFunctionTable ctx.now.program functions.now.outer functions.now.handles.keys
+        (number_of functions.now.tables.tables.entries functions.now.outer functions.now.handles.keys) }
     requires numbered { IsBlockNumbered ctx.now functions.now.outer values.now.keys blocks.now.keys block }
     ensures { IfOk result (LowersBlock ctx.now functions.now.outer values.now.keys blocks.now.keys
-        functions.now.handles.items block) }
+        functions.now.handles.keys block) }
 {
     ctx.program().know_lists();
     let arguments = argument_numbers(alloc, ctx.program(), values, block)?;
@@ -166,13 +166,13 @@ fn lower_blocks(
 ) -> Result<Vec<FlatBlock>, AllocError>
     requires live { (i : ℕ) (b : Ptr BasicBlock) → slice_get blocks.now.keys i ≡ Some b
         → IsSome (block_at ctx.now.program b) }
-    requires table { IsFunctionTable ctx.now.program (members ctx.now.program functions.now.outer)
-        functions.now.handles.items functions.now.names.entries }
+    requires table { IsFunctionTable ctx.now.program functions.now.outer functions.now.handles.keys
+        (number_of functions.now.tables.tables.entries functions.now.outer functions.now.handles.keys) }
     requires numbered { (i : ℕ) (b : Ptr BasicBlock) → slice_get blocks.now.keys i ≡ Some b
         → IsBlockNumbered ctx.now functions.now.outer values.now.keys blocks.now.keys b }
     ensures len { IfOk result (λ lowered. length lowered.items ≡ length blocks.now.keys) }
     ensures each { IfOk result (λ lowered. (i : ℕ) (x : _) → slice_get lowered.items i ≡ Some x
-        → LowersBlock ctx.now functions.now.outer values.now.keys blocks.now.keys functions.now.handles.items
+        → LowersBlock ctx.now functions.now.outer values.now.keys blocks.now.keys functions.now.handles.keys
         (block_with blocks.now.keys i) x) }
 {
     let mut lowered = Vec::new(alloc);
@@ -196,11 +196,11 @@ fn lower_inside(
     inside: &Inside,
 ) -> Result<FlatFunction, AllocError>
     requires live { IsSome (operation_at ctx.now.program op) }
-    requires table { IsFunctionTable ctx.now.program (members ctx.now.program functions.now.outer)
-        functions.now.handles.items functions.now.names.entries }
+    requires table { IsFunctionTable ctx.now.program functions.now.outer functions.now.handles.keys
+        (number_of functions.now.tables.tables.entries functions.now.outer functions.now.handles.keys) }
     requires can_run { CanRun ctx.now functions.now.outer op }
     requires numbers { NumbersInside ctx.now.program op (numbers_of inside.now) }
-    ensures { IfOk result (LowersFunction ctx.now functions.now.outer functions.now.handles.items op) }
+    ensures { IfOk result (LowersFunction ctx.now functions.now.outer functions.now.handles.keys op) }
 {
     let program = ctx.program();
     program.know_lists();
@@ -224,10 +224,10 @@ fn lower_function(
     op: Ptr<Operation>,
 ) -> Result<FlatFunction, AllocError>
     requires live { IsSome (operation_at ctx.now.program op) }
-    requires table { IsFunctionTable ctx.now.program (members ctx.now.program functions.now.outer)
-        functions.now.handles.items functions.now.names.entries }
+    requires table { IsFunctionTable ctx.now.program functions.now.outer functions.now.handles.keys
+        (number_of functions.now.tables.tables.entries functions.now.outer functions.now.handles.keys) }
     requires can_run { CanRun ctx.now functions.now.outer op }
-    ensures { IfOk result (LowersFunction ctx.now functions.now.outer functions.now.handles.items op) }
+    ensures { IfOk result (LowersFunction ctx.now functions.now.outer functions.now.handles.keys op) }
 {
     let inside = number_inside(alloc, ctx.program(), op)?;
     lower_inside(alloc, ctx, functions, op, &inside)
@@ -239,17 +239,20 @@ pub(crate) fn lower_module(
     ctx: &Context<Kit>,
     functions: &Functions,
 ) -> Result<FlatModule, AllocError>
-    requires live { (i : ℕ) (f : Ptr Operation) → slice_get functions.now.handles.items i ≡ Some f
+    requires live { (i : ℕ) (f : Ptr Operation) → slice_get functions.now.handles.keys i ≡ Some f
         → IsSome (operation_at ctx.now.program f) }
-    requires table { IsFunctionTable ctx.now.program (members ctx.now.program functions.now.outer)
-        functions.now.handles.items functions.now.names.entries }
+    requires table { IsFunctionTable ctx.now.program functions.now.outer functions.now.handles.keys
+        (number_of functions.now.tables.tables.entries functions.now.outer functions.now.handles.keys) }
     requires can_run { FunctionsCanRun ctx.now functions.now.outer }
-    ensures { IfOk result (λ lowered. LowersModule ctx.now functions.now.outer functions.now.handles.items
+    ensures { IfOk result (λ lowered. LowersModule ctx.now functions.now.outer functions.now.handles.keys
         lowered.functions.items) }
 {
     let mut lowered = Vec::new(alloc);
     for i in 0..functions.handles.len() {
-        lowered.push(lower_function(alloc, ctx, functions, functions.handles[i])?)?;
+        match functions.handles.get_index(i) {
+            Some(function) => lowered.push(lower_function(alloc, ctx, functions, *function)?)?,
+            None => unreachable!(),
+        }
     }
     Ok(FlatModule { functions: lowered })
 }

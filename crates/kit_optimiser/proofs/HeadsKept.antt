@@ -160,8 +160,8 @@ module _ {N : Names} (leads : TypeHandle → Option KitType) (numbered : List �
   pass_keeps : (x : Pass) (t u : Root N kit_contents) → IsSoundTree {N = N} leads numbered t
       → IsTreePass {N = N} x t u → (path : List ℕ)
       → function_content {N = N} numbered path u ≡ function_content {N = N} numbered path t
-  pass_keeps SccpPass t u sound pass path = sccp_keeps t u pass path
-  pass_keeps LeanSccpPass t u sound pass path = absurd pass
+  pass_keeps SccpPass t u sound pass path = absurd pass
+  pass_keeps LeanSccpPass t u sound pass path = sccp_keeps t u pass path
   pass_keeps DcePass t u sound pass path = dce_keeps sound.0 t sound.1 u pass path
   pass_keeps SimplifyPass t u sound pass path = simplify_keeps sound.0 t sound.1 u pass path
 

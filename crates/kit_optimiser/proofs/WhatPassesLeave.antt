@@ -12,7 +12,7 @@ use Rattle.kit_checks.specs.KitWorld.{HasDeclaredTypes, kit_world}
 use Rattle.opt_trees.specs.Simplify.{IsLocal, IsSimplify}
 use Rattle.kit.specs.declared.dialect.Unused.{Unused}
 use Rattle.kit.specs.Meaning.{kit}
-use Rattle.kit_behaviour.specs.PassLists.{SccpPass, DcePass, SimplifyPass}
+use Rattle.kit_behaviour.specs.PassLists.{LeanSccpPass, DcePass, SimplifyPass}
 use Rattle.kit_pass_rules.specs.ChainLaws.{DefinersApart, SimplifiedKeepsRules}
 use Rattle.kit_ruled_passes.specs.Held.{HoldsModule}
 use Rattle.kit_ruled_views.specs.TreePasses.{IsTreePass, IsSccpNamed, IsDceAlone, IsSimplifiedAlone}
@@ -33,7 +33,7 @@ live c root t stands = subst (λ o. IsSome o) (sym stands.there) refl
 
 -- under any handles, and under names of operations
 named : (t u : KitTree) → IsSccpNamed {N = by_handle} t u → laws.IsSccpUpToNames t u
-named t u m = record { put_in = m.put; is_sccp = m.is; names = m.names; is = m.same }
+named t u m = record { around = m.around; put_in = m.put; is_sccp = m.is; names = m.names; is = m.same }
 
 simply : (t u : KitTree) (m : IsSimplifiedAlone {N = by_handle} t u) → MakesUpToNames (IsSimplify kit m.around) t u
 simply t u m = (m.simplified, m.is, m.names, m.same)
@@ -85,8 +85,8 @@ module _ (old new : KitContext) (root : Ptr Operation) (held : HoldsModule old r
 
   pub propagated : SccpKeepsRules → SccpStaysWritable
       → LeavesTree old.program new.program root (λ t u. IsSccpNamed {N = by_handle} t u)
-      → IsPassed SccpPass old new root
-  propagated obey write made = leaves (IsTreePass {N = by_handle} SccpPass) (record {
+      → IsPassed LeanSccpPass old new root
+  propagated obey write made = leaves (IsTreePass {N = by_handle} LeanSccpPass) (record {
     rules = λ t u stands m typed. obey (key_at old.types) (type_at old.program) (type_at new.program) t u
         (good t stands) (named t u m) typed;
     writes = λ t u stands m w. write old.types.keys (type_at old.program) t u w (good t stands) (named t u m);

@@ -14,9 +14,9 @@ use Rattle.kit_ops.specs.declared.pass.KitPass.TheVariants as passes
 use Rattle.kit_writable_trees.specs.Writable.{IsWritableRoot}
 use Rattle.opt_sccp.specs.Sccp.{MovesCounterTo}
 
--- the pass on programs that it is
+-- the pass on programs that it is: constant propagation puts constants in for used values alone
 abbrev pub pass_of : KitPass → Pass
-pass_of passes.Sccp = SccpPass
+pass_of passes.Sccp = LeanSccpPass
 pass_of passes.Dce = DcePass
 pass_of passes.SimplifyCfg = SimplifyPass
 
@@ -52,8 +52,8 @@ IsSoundRoot s root = (t : KitTree) → StandsFor s.program root t → (numbered 
 -- What a pass moves the counter of values to: constant propagation takes a number for each value that gets a constant,
 -- and the others take none.
 abbrev pub CountsTo : Pass → KitContext → Ptr Operation → ℕ → Type 0
-CountsTo SccpPass old root n = MovesCounterTo kit old.program root n
-CountsTo LeanSccpPass old root n = ⊥
+CountsTo SccpPass old root n = ⊥
+CountsTo LeanSccpPass old root n = MovesCounterTo kit old.program root n
 CountsTo DcePass old root n = n ≡ old.program.counter
 CountsTo SimplifyPass old root n = n ≡ old.program.counter
 

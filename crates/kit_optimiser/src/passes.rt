@@ -1,7 +1,7 @@
 //! One optimisation of a module.
 ghost use Rattle.std.specs.Prelude.{◌≡◌, Err, IfErr, OnErr, OnOk};
 ghost use Rattle.ir_base.specs.declared.growth.GrowError.TheVariants.{CounterFull, Memory};
-ghost use Rattle.kit_behaviour.specs.PassLists.{DcePass, SccpPass, SimplifyPass};
+ghost use Rattle.kit_behaviour.specs.PassLists.{DcePass, LeanSccpPass, SimplifyPass};
 ghost use Rattle.kit_ruled_passes.specs.Held.{HoldsModule};
 ghost use Rattle.kit_optimiser.specs.Outside.{KeepsRest, StaysOutside};
 ghost use Rattle.kit_optimiser.specs.Passed.{CountsTo, IsPassed, StopsFull};
@@ -56,9 +56,9 @@ pub fn propagate_constants(
     root: Ptr<Operation>,
 ) -> Result<(), GrowError>
     requires { HoldsModule ctx.old root }
-    ensures passed { OnOk result (IsPassed SccpPass ctx.old ctx.new root) }
-    ensures numbers { OnOk result (CountsTo SccpPass ctx.old root ctx.new.program.counter) }
-    ensures full { result ≡ Err CounterFull → StopsFull SccpPass ctx.old root }
+    ensures passed { OnOk result (IsPassed LeanSccpPass ctx.old ctx.new root) }
+    ensures numbers { OnOk result (CountsTo LeanSccpPass ctx.old root ctx.new.program.counter) }
+    ensures full { result ≡ Err CounterFull → StopsFull LeanSccpPass ctx.old root }
     ensures outside { KeepsRest ctx.old.program ctx.new.program root }
     ensures stays { OnOk result (StaysOutside ctx.old.program ctx.new.program root) }
     ensures none_come { OnOk result (AddsNoneOutside ctx.old.program ctx.new.program root) }

@@ -40,6 +40,7 @@ use Rattle.kit_pass_rules.proofs.SccpSee.{Fits}
 use Rattle.kit_views.specs.Reading.{integer_of}
 use Rattle.opt_rows.specs.declared.known.Known.TheVariants.{Undetermined, One}
 use Rattle.opt_rows.specs.Known.{AtOrBelow, asked}
+use Rattle.opt_trees.specs.Dce.{TreeSurroundings}
 use Rattle.opt_trees.specs.Facts.{Facts, IsClosed, IsMostPrecise, FoldClosed, BranchClosed}
 use Rattle.opt_trees.specs.Occurrences.{Has, block_occurrences_of}
 use Rattle.opt_trees.specs.Sccp.{Gets, IsArgument, IsResult, fresh}
@@ -152,8 +153,8 @@ module _ (leads : TypeHandle → Option KitType) where
           in_range = right.in_range;
         }
 
-    pub fits : (v : Value) (a : IntegerAttr) → Gets kit t k v a → Fits leads old v a
-    fits v a g = fits_of v a g.known (⊎_elim (result_type v) (argument_type v) g.place)
+    pub fits : (w : TreeSurroundings by_handle IntegerAttr) (v : Value) (a : IntegerAttr) → Gets kit w t k v a → Fits leads old v a
+    fits w v a g = fits_of v a g.known (⊎_elim (result_type v) (argument_type v) g.place)
 
 module _ (leads : TypeHandle → Option KitType) (old new : Value → Option TypeHandle) (t : KitTree) (good : IsGood leads old t)
     (made : Value → Option IntegerAttr) (names : Maps (fresh by_handle) by_handle) (fit : (v : Value) (a : IntegerAttr) → made v ≡ Some a → Fits leads old v a)
@@ -182,4 +183,4 @@ sccp_law = λ leads old new t after good named typed.
     let x = named.is_sccp in
     let same : q_tree x.made named.names t ≡ after = sym (named.is ∙ ap (rename_root named.names) x.is) in
     subst (ObeysIn (kit_world leads new)) same
-    (with_constants_keeps leads old new t good x.made named.names (λ v a e. fits leads old t good x.facts x.best v a (x.is_made.gets v a e)) (subst (HasDeclaredTypes new) (sym same) typed))
+    (with_constants_keeps leads old new t good x.made named.names (λ v a e. fits leads old t good x.facts x.best named.around v a (x.is_made.gets v a e)) (subst (HasDeclaredTypes new) (sym same) typed))

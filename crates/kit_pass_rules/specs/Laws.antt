@@ -36,10 +36,11 @@ StaysGood Makes =
 abbrev pub DceKeepsRules : Type 0
 DceKeepsRules = (w : TreeSurroundings by_handle IntegerAttr) → StaysGood (IsDce kit w)
 
--- the tree with constants put in for known values, under whatever handles
+-- the tree with constants put in for known values that have a use, under whatever handles
 pub record IsSccpUpToNames (t after : KitTree) : Type 0 where
+  pub around : TreeSurroundings by_handle IntegerAttr
   pub put_in : Root (fresh by_handle) (in_program KitOperation KitBlock)
-  pub is_sccp : IsSccp kit t put_in
+  pub is_sccp : IsSccp kit around t put_in
   pub names : Maps (fresh by_handle) by_handle
   pub is : after ≡ rename_root names put_in
 

@@ -32,7 +32,7 @@ module _ (old new : KitProgram) (root : Ptr Operation) (known : IsKnownBefore ol
   abbrev after : KitTree
   after = rename_root done.puts.names (put_root {N = by_handle} kit done.made t)
 
-  gets : (v : Value) (a : IntegerAttr) → done.made v ≡ Some a → Gets kit t done.decided.facts v a
+  gets : (v : Value) (a : IntegerAttr) → done.made v ≡ Some a → Gets kit done.decided.around t done.decided.facts v a
   gets v a e = done.decided.is_made.gets v a e
 
   -- a value that gets a constant is defined below the root

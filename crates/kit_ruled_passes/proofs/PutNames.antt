@@ -12,8 +12,9 @@ use Rattle.ir_trees.specs.Searched.{Lists, heads_in, heads_of, operation_names}
 use Rattle.ir_trees.specs.Stands.{by_handle, in_program, ProgramHead, StandsFor}
 use Rattle.ir_trees.specs.Trees.{Defined, Head, Sort, Operations, Regions, Tree, end, operation, block, region}
 use Rattle.kit.specs.Context.{KitProgram, KitTree}
-use Rattle.opt_trees.specs.Occurrences.{Has}
+use Rattle.opt_trees.specs.Occurrences.{Has, defined_in}
 use Rattle.opt_trees.specs.Sccp.{Name, Old, New, fresh, used_as, constant_before, put_one, put_results, put_arguments, old_head, put, put_root}
+use Rattle.opt_inside.specs.Around.{IsTakenOutside}
 use Rattle.opt_sccp.specs.Puts.{PutsConstants}
 use Rattle.opt_sccp.specs.Sccp.{Propagates}
 use Rattle.opt_dialect.specs.declared.status.IRStatus.{IRStatus}
@@ -277,11 +278,13 @@ module _ (old new : KitProgram) (root : Ptr Operation) (knows : KnowsValues old)
   }
 
 pub is_named : (old new : KitProgram) (root : Ptr Operation) → KnowsValues old → (answer : IRStatus) (t : KitTree)
-    → StandsFor old root t → Propagates kit old new root answer t → (u : KitTree) × StandsFor new root u × IsSccpNamed t u
-is_named old new root knows answer t stands p = (
+    → ((v : Value) → Has v (defined_in t.regions) → IsTakenOutside old root v → ⊥) → StandsFor old root t → Propagates kit old new root answer t → (u : KitTree) × StandsFor new root u × IsSccpNamed t u
+is_named old new root knows answer t closed stands p = (
   rename_root p.puts.names (put_root {N = by_handle} kit p.made t),
   p.puts.stands,
   record {
+    around = p.decided.around;
+    unpinned = λ v has pinned. closed v has ((p.decided.pins v).0 pinned);
     put = put_root {N = by_handle} kit p.made t;
     is = record {
       facts = p.decided.facts;

@@ -7,7 +7,7 @@ use Rattle.ir_names.specs.Dictionary.{attribute_at}
 use Rattle.ir_trees.specs.Names.{Names}
 use Rattle.ir_trees.specs.Renames.{names_of, rename_defined}
 use Rattle.ir_trees.specs.Trees.{Defined, Head, Label, Root}
-use Rattle.opt_trees.specs.Dce.{ForwardsTo}
+use Rattle.opt_trees.specs.Dce.{ForwardsTo, TreeSurroundings}
 use Rattle.opt_trees.specs.Occurrences.{Has, Occurrence, BlockOccurrence, at_root, occurrences_of, block_occurrences_of, defined_in}
 use Rattle.opt_rows.specs.declared.known.Known.{Known}
 use Rattle.opt_rows.specs.declared.known.Known.TheVariants as known
@@ -324,8 +324,8 @@ module _ {N : Names} (leads : TypeHandle → Option KitType) (numbered : List �
       not_any : ◌≡◌ {A = Known IntegerAttr} (known.One a) known.Any → ⊥
       not_any e = cc e
 
-  module _ (facts : Facts N IntegerAttr) (best : IsMostPrecise kit t facts) (made : N.value → Option IntegerAttr)
-      (is_made : AreMadeConstants kit t facts made) where
+  module _ (w : TreeSurroundings N IntegerAttr) (facts : Facts N IntegerAttr) (best : IsMostPrecise kit t facts)
+      (made : N.value → Option IntegerAttr) (is_made : AreMadeConstants kit w t facts made) where
     gets_defined : (v : N.value) (a : IntegerAttr) → made v ≡ Some a → Has v (defined_in t.regions)
     gets_defined v a is = ⊎_elim
         (λ (r : IsResult kit t facts v). result_defined t.regions (at_root t) r.definer v r.stands r.result)
@@ -369,11 +369,11 @@ module _ {N : Names} (leads : TypeHandle → Option KitType) (numbered : List �
 
 pub typed_after_sccp : {N : Names} (same : N.value → N.value → Bool) (same_block : N.block → N.block → Bool)
     (leads : TypeHandle → Option KitType) (numbered : List ℕ → ℕ) (type_at : N.value → TypeHandle)
-    (t : Root N kit_contents) (after : Root (fresh N) kit_contents) (f : Fun N.value)
+    (w : TreeSurroundings N IntegerAttr) (t : Root N kit_contents) (after : Root (fresh N) kit_contents) (f : Fun N.value)
     → IsSameness same → IsSameness same_block → FlattensTo (kit_reading leads numbered) t f
-    → IsTyped leads {N = N} type_at t → IsSccp kit t after → IsTyped leads {N = fresh N} (type_after type_at) after
-typed_after_sccp {N} same same_block leads numbered type_at t then_is f sameness block_law is_flat typed pass =
+    → IsTyped leads {N = N} type_at t → IsSccp kit w t after → IsTyped leads {N = fresh N} (type_after type_at) after
+typed_after_sccp {N} same same_block leads numbered type_at w t then_is f sameness block_law is_flat typed pass =
     subst (IsTyped leads {N = fresh N} (type_after type_at)) (sym pass.is)
     (put_typed leads type_at t pass.made typed
-    (are_numbers leads numbered same sameness same_block block_law type_at t f is_flat typed pass.facts pass.best
+    (are_numbers leads numbered same sameness same_block block_law type_at t f is_flat typed w pass.facts pass.best
     pass.made pass.is_made))

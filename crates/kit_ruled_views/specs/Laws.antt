@@ -61,9 +61,9 @@ type_after type_at (New v) = type_at v
 abbrev pub TypedAfterSccp : Names → Type 0
 TypedAfterSccp N = (same : N.value → N.value → Bool) (same_block : N.block → N.block → Bool)
     (leads : TypeHandle → Option KitType) (numbered : List ℕ → ℕ) (type_at : N.value → TypeHandle)
-    (t : Root N kit_contents) (after : Root (fresh N) kit_contents) (f : Fun N.value) →
+    (w : TreeSurroundings N IntegerAttr) (t : Root N kit_contents) (after : Root (fresh N) kit_contents) (f : Fun N.value) →
     IsSameness same → IsSameness same_block → FlattensTo (kit_reading leads numbered) t f →
-    IsTyped leads {N = N} type_at t → IsSccp kit t after → IsTyped leads {N = fresh N} (type_after type_at) after
+    IsTyped leads {N = N} type_at t → IsSccp kit w t after → IsTyped leads {N = fresh N} (type_after type_at) after
 
 -- what is left of the tree of a typed function, without what is dead, is typed
 abbrev pub TypedAfterDce : Names → Type 0

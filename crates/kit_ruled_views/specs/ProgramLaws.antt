@@ -13,7 +13,7 @@ use Rattle.kit_checks.specs.Faults.{KeptEverywhere}
 use Rattle.kit_ruled_views.specs.Ruled.{HasOwnNames, type_or_first}
 use Rattle.kit_behaviour.specs.Machine.{FunctionsByPath}
 use Rattle.kit_behaviour.specs.ConstantPropagation as constants
-use Rattle.kit_behaviour.specs.ConstantPropagation.{all_wanted}
+use Rattle.kit_behaviour.specs.ConstantPropagation.{used_wanted}
 use Rattle.kit_behaviour.specs.DeadValues as dead
 use Rattle.kit_behaviour.specs.Laws.{AlikeWithin, EachKeepsRules}
 use Rattle.kit_behaviour.specs.PassLists.{Pass, IsAfter, Fit, Goal, SameFaces}
@@ -69,9 +69,10 @@ IsPassOn N Tree Flat = (told : AreTold N) (leads : TypeHandle → Option KitType
 abbrev pub DceIsDce : Names → Type 0
 DceIsDce N = IsPassOn N IsDceAlone dead.IsDceOfFunctions
 
--- constants put into the tree of a module are constants put into its program, for all known values that may get one
+-- constants put into the tree of a module are constants put into its program, for all known values that may get one and
+-- that have a use
 abbrev pub SccpIsSccp : Names → Type 0
-SccpIsSccp N = IsPassOn N IsSccpNamed (constants.IsSccpOfFunctions all_wanted)
+SccpIsSccp N = IsPassOn N IsSccpNamed (constants.IsSccpOfFunctions used_wanted)
 
 -- control flow simplified on the tree of a module is control flow simplified on its program
 abbrev pub SimplifyIsSimplify : Names → Type 0

@@ -16,10 +16,13 @@ use Rattle.kit_views.specs.Reading.{kit_contents}
 use Rattle.kit_behaviour.specs.PassLists.{Pass, SccpPass, LeanSccpPass, DcePass, SimplifyPass}
 use Rattle.kit_ruled_views.specs.Sound.{IsSound}
 
--- constants are put in, under names for the constants that are kept apart from each other and from all others
+-- constants are put in for known values that have a use, under names for the constants that are kept apart from each other
+-- and from all others, and nothing in the tree is named from outside
 pub record IsSccpNamed {N : Names} (t after : Root N kit_contents) : Type 0 where
+  pub around : TreeSurroundings N IntegerAttr
+  pub unpinned : NothingPinned around t
   pub put : Root (fresh N) kit_contents
-  pub is : IsSccp kit t put
+  pub is : IsSccp kit around t put
   pub names : Maps (fresh N) N
   pub apart : IsOneToOne names put
   pub same : after ≡ rename_root names put
@@ -45,10 +48,10 @@ pub record IsSimplifiedAlone {N : Names} (t after : Root N kit_contents) : Type 
   pub apart : (o p : N.operation) → names o ≡ names p → o ≡ p
   pub same : after ≡ rename_root (maps_of names) simplified
 
--- the pass on trees that is this pass on programs; there is none here of constants for used values alone
+-- the pass on trees that is this pass on programs; there is none here of constants for values without a use
 abbrev pub IsTreePass : {N : Names} → Pass → Root N kit_contents → Root N kit_contents → Type 0
-IsTreePass SccpPass t after = IsSccpNamed t after
-IsTreePass LeanSccpPass t after = ⊥
+IsTreePass SccpPass t after = ⊥
+IsTreePass LeanSccpPass t after = IsSccpNamed t after
 IsTreePass DcePass t after = IsDceAlone t after
 IsTreePass SimplifyPass t after = IsSimplifiedAlone t after
 

@@ -30,11 +30,11 @@ pub record GetsIn {V : Type 0} (f : Fun V) (k : FunctionFacts V) (v : V) (n : �
   pub stands : slice_get f b ≡ Some block
   pub place : IsMadeIn v block
 
-has_to_in : {X : Type 0} (x : X) (xs : List X) → Has x xs → In x xs
+pub has_to_in : {X : Type 0} (x : X) (xs : List X) → Has x xs → In x xs
 has_to_in x [] h = h
 has_to_in x (y ∷ xs) h = ⊎_elim (λ e. inl e) (λ k. inr (has_to_in x xs k)) h
 
-in_to_has : {X : Type 0} (x : X) (xs : List X) → In x xs → Has x xs
+pub in_to_has : {X : Type 0} (x : X) (xs : List X) → In x xs → Has x xs
 in_to_has x [] h = h
 in_to_has x (y ∷ xs) h = ⊎_elim (λ e. inl e) (λ k. inr (in_to_has x xs k)) h
 

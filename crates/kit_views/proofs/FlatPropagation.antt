@@ -9,6 +9,7 @@ use Rattle.ir_trees.specs.Searched.{AreDistinct, operation_names, heads_in}
 use Rattle.ir_trees.specs.Trees.{Head, Blocks, Tree, end, region, Root}
 use Rattle.opt_rows.specs.declared.known.Known.{Known}
 use Rattle.opt_rows.specs.declared.known.Known.TheVariants as known
+use Rattle.opt_trees.specs.Dce.{TreeSurroundings}
 use Rattle.opt_trees.specs.Facts as trees
 use Rattle.opt_trees.specs.Occurrences.{Has, Occurrence, occurrences_in, occurrences_of, defined_in}
 use Rattle.opt_trees.specs.Sccp as sccp
@@ -32,11 +33,15 @@ use Rattle.kit_views.specs.FlatView.{IsSameness, kind_of, IsOp, AreFlatBlocks, n
 use Rattle.kit_behaviour.specs.InsertedConstants.{put_block, use_of}
 use Rattle.kit_behaviour.specs.NamedPasses.{GetsConstant}
 use Rattle.kit_behaviour.specs.Replacement.{replace_block}
+use Rattle.kit_behaviour.specs.Rules.{blocks_operands, uses_in}
+use Rattle.kit_behaviour.specs.Scopes.{In}
 use Rattle.kit_views.specs.FlatConstants.{IsPropagatedView}
-use Rattle.kit_views.proofs.Calculated.{IsCalculated, GetsIn, gets_both}
+use Rattle.kit_views.specs.Laws.{NothingPinned}
+use Rattle.kit_views.proofs.Calculated.{IsCalculated, GetsIn, gets_both, has_to_in, in_to_has}
+use Rattle.kit_views.proofs.FlatUses.{operands_are, used_of, user_of}
 use Rattle.kit_views.specs.FlatFacts.{IsKnownAs, AreFlatly}
 use Rattle.kit_views.specs.Typed.{number_as, IsTyped}
-use Rattle.kit_views.proofs.Lists.{to_distinct, from_distinct}
+use Rattle.kit_views.proofs.Lists.{to_distinct, from_distinct, has_get, at_has}
 use Rattle.kit_views.proofs.Uses.{true_false}
 use Rattle.kit_views.proofs.Standing.{whole, Given, root_spot, pair, back, block_pair, block_back, one_maker, not_both}
 use Rattle.kit_views.proofs.ClosedBoth.{arith_folds, branch_kind}
@@ -88,7 +93,7 @@ module _ {N : Names} (leads : TypeHandle → Option KitType) (numbered : List �
   makes_of h names v (Branch s xs e es) is c = absurd c
   makes_of h names v (Return xs) is c = absurd c
 
-  module _ (h : Head N kit_contents) (bs : Tree N kit_contents Blocks) (f : Fun N.value) (given : Given (kit_reading leads numbered) h bs f) (k : trees.Facts N IntegerAttr) (l : flat.FunctionFacts N.value) (agree : AreFlatly leads {N = N} type_at (whole (kit_reading leads numbered) h bs f) (names_in bs) k l) (made : N.value → Option IntegerAttr) (is_made : AreMadeConstants kit (whole (kit_reading leads numbered) h bs f) k made) where
+  module _ (h : Head N kit_contents) (bs : Tree N kit_contents Blocks) (f : Fun N.value) (given : Given (kit_reading leads numbered) h bs f) (k : trees.Facts N IntegerAttr) (l : flat.FunctionFacts N.value) (agree : AreFlatly leads {N = N} type_at (whole (kit_reading leads numbered) h bs f) (names_in bs) k l) (w : TreeSurroundings N IntegerAttr) (none : NothingPinned w (whole (kit_reading leads numbered) h bs f)) (made : N.value → Option IntegerAttr) (is_made : AreMadeConstants kit w (whole (kit_reading leads numbered) h bs f) k made) where
     result_gets : (v : N.value) (q : IsResult kit (whole (kit_reading leads numbered) h bs f) k v) (n : ℕ) → l.of v ≡ flat.Known n → GetsIn f l v n
     result_gets v q n e =
         let p = pair (kit_reading leads numbered) h bs f given q.definer q.stands in
@@ -108,23 +113,52 @@ module _ {N : Names} (leads : TypeHandle → Option KitType) (numbered : List �
         (λ (z : IsResult kit (whole (kit_reading leads numbered) h bs f) k v). result_gets v z n (known_as leads (type_at v) (k.of v) (l.of v) a (agree.of v (result_defined (region bs end) (root_spot (kit_reading leads numbered) h bs f given) z.definer v z.stands z.result)) g.known ∙ ap flat.Known bits))
         (λ (z : IsArgument (whole (kit_reading leads numbered) h bs f) k.runs v). argument_gets v z n (known_as leads (type_at v) (k.of v) (l.of v) a (agree.of v (argument_defined (region bs end) (root_spot (kit_reading leads numbered) h bs f given) z.definer v z.stands z.argument)) g.known ∙ ap flat.Known bits)) g.place
 
-    -- the fact of a value that is defined, and where it is
-    made_here : (v : N.value) (n : ℕ) → l.of v ≡ flat.Known n → Has v (defined_in (region bs end)) → IsResult kit (whole (kit_reading leads numbered) h bs f) k v ⊎ IsArgument (whole (kit_reading leads numbered) h bs f) k.runs v → numbers made v ≡ Some n
-    made_here v n e i place =
-        let is = subst (IsKnownAs leads (type_at v) (k.of v)) e (agree.of v i) in
-        ap (option_map (λ (a : IntegerAttr). a.bits)) (is_made.all v (number_as leads (type_at v) n) (record { known = is.0; maker = operation_of ops.Constant ((constant_value, attrs.Integer (number_as leads (type_at v) n)) ∷ []); made_by = refl; place = place }))
+    -- a value that is defined has a use in the tree exactly where it has one in the flat view
+    used_flat : (v : N.value) → Has v (defined_in (region bs end)) → sccp.IsUsed w (whole (kit_reading leads numbered) h bs f) v → In v (uses_in (Some f))
+    used_flat v d u = ⊎_elim
+        (λ b.
+        let p = pair (kit_reading leads numbered) h bs f given b.0 b.2.stands in
+        has_to_in v (blocks_operands f)
+        (used_of v f p.place p.k p.op p.at p.stands
+        (subst (Has v) (operands_are (kit_reading leads numbered) (names_in bs) b.0.head p.op p.is) (has_get b.0.head.operands b.1 v b.2.operand))))
+        (λ q. ⊎_elim (λ i. absurd (subst (Has v) given.no_operands i)) (λ e. absurd (none v d e)) q)
+        u
 
-    back_again : (v : N.value) (n : ℕ) → GetsIn f l v n → numbers made v ≡ Some n
-    back_again v n g = ⊎_elim
+    flat_used : (v : N.value) → In v (uses_in (Some f)) → sccp.IsUsed w (whole (kit_reading leads numbered) h bs f) v
+    flat_used v i =
+        let u = user_of v f (in_to_has v (blocks_operands f) i) in
+        let o = back (kit_reading leads numbered) h bs f given u.b u.k u.op u.at u.stands in
+        let at = at_has o.it.head.operands v (subst (Has v) (sym (operands_are (kit_reading leads numbered) (names_in bs) o.it.head u.op o.is)) u.operand) in
+        inl (o.it, at.place, record { stands = o.stands; operand = at.is })
+
+    used_there : (v : N.value) (n : ℕ) (o : Option IntegerAttr) → made v ≡ o → option_map (λ (a : IntegerAttr). a.bits) o ≡ Some n → In v (uses_in (Some f))
+    used_there v n None e q = absurd (none_some n q)
+    used_there v n (Some a) e q =
+        let g = is_made.gets v a e in
+        used_flat v
+        (⊎_elim
+        (λ (z : IsResult kit (whole (kit_reading leads numbered) h bs f) k v). result_defined (region bs end) (root_spot (kit_reading leads numbered) h bs f given) z.definer v z.stands z.result)
+        (λ (z : IsArgument (whole (kit_reading leads numbered) h bs f) k.runs v). argument_defined (region bs end) (root_spot (kit_reading leads numbered) h bs f given) z.definer v z.stands z.argument)
+        g.place)
+        g.used
+
+    -- the fact of a value that is defined, where it is, and that it has a use
+    made_here : (v : N.value) (n : ℕ) → l.of v ≡ flat.Known n → Has v (defined_in (region bs end)) → In v (uses_in (Some f)) → IsResult kit (whole (kit_reading leads numbered) h bs f) k v ⊎ IsArgument (whole (kit_reading leads numbered) h bs f) k.runs v → numbers made v ≡ Some n
+    made_here v n e i u place =
+        let is = subst (IsKnownAs leads (type_at v) (k.of v)) e (agree.of v i) in
+        ap (option_map (λ (a : IntegerAttr). a.bits)) (is_made.all v (number_as leads (type_at v) n) (record { known = is.0; maker = operation_of ops.Constant ((constant_value, attrs.Integer (number_as leads (type_at v) n)) ∷ []); made_by = refl; place = place; used = flat_used v u }))
+
+    back_again : (v : N.value) (n : ℕ) → GetsIn f l v n → In v (uses_in (Some f)) → numbers made v ≡ Some n
+    back_again v n g u = ⊎_elim
         (λ i.
         let x = block_back (kit_reading leads numbered) h bs f given g.b g.block g.stands in
         let has = subst (Has v) (sym x.same.arguments) i in
-        made_here v n g.known (argument_defined (region bs end) (root_spot (kit_reading leads numbered) h bs f given) x.it v x.stands has)
+        made_here v n g.known (argument_defined (region bs end) (root_spot (kit_reading leads numbered) h bs f given) x.it v x.stands has) u
         (inr (record { definer = x.it; stands = x.stands; in_run = sym (agree.runs g.b x.it.label.name x.same.name) ∙ g.runs; argument = has })))
         (λ (i : (p : Op N.value) × Has p g.block.ops × IsCalculated v p).
         let o = back (kit_reading leads numbered) h bs f given g.b g.block i.0 g.stands i.1 in
         let m = makes_of o.it.head (names_in bs) v i.0 o.is i.2 in
-        made_here v n g.known (result_defined (region bs end) (root_spot (kit_reading leads numbered) h bs f given) o.it v o.stands m.result)
+        made_here v n g.known (result_defined (region bs end) (root_spot (kit_reading leads numbered) h bs f given) o.it v o.stands m.result) u
         (inl (record { definer = o.it; stands = o.stands; runs = sym (agree.runs g.b o.it.site.label.name o.name) ∙ g.runs; folds = m.folds; no_constant = m.no_constant; result = m.result }))) g.place
 
     -- no constant and no result of a call gets a constant
@@ -156,21 +190,22 @@ module _ {N : Names} (leads : TypeHandle → Option KitType) (numbered : List �
       edges = rest_fits made f given.edges;
     }
 
-    pub made_exactly : (v : N.value) (n : ℕ) → (numbers made v ≡ Some n) ↔ GetsConstant (Some f) l v n
+    pub made_exactly : (v : N.value) (n : ℕ) → (numbers made v ≡ Some n) ↔ (GetsConstant (Some f) l v n × In v (uses_in (Some f)))
     made_exactly v n = (
-      λ e. (gets_both f l v n).0 (there v n (made v) refl e),
-      λ g. back_again v n ((gets_both f l v n).1 g),
+      λ e. ((gets_both f l v n).0 (there v n (made v) refl e), used_there v n (made v) refl e),
+      λ g. back_again v n ((gets_both f l v n).1 g.0) g.1,
     )
 
 module _ {N : Names} (leads : TypeHandle → Option KitType) (numbered : List ℕ → ℕ) (same : N.value → N.value → Bool) (sameness : IsSameness same) (same_block : N.block → N.block → Bool) (block_law : IsSameness same_block) (type_at : N.value → TypeHandle) where
-  pub propagated : (t : Root N kit_contents) (after : Root (fresh N) kit_contents) (f : Fun N.value) → FlattensTo (kit_reading leads numbered) t f → IsTyped leads {N = N} type_at t → IsSccp kit t after → IsPropagatedView {N = N} leads numbered f after
-  propagated t after f is_flat typed pass =
+  pub propagated : (w : TreeSurroundings N IntegerAttr) (t : Root N kit_contents) (after : Root (fresh N) kit_contents) (f : Fun N.value) → FlattensTo (kit_reading leads numbered) t f → IsTyped leads {N = N} type_at t → NothingPinned w t → IsSccp kit w t after → IsPropagatedView {N = N} leads numbered f after
+  propagated w t after f is_flat typed unpinned pass =
       let bs : Tree N kit_contents Blocks = is_flat.view.blocks in
       let given : Given (kit_reading leads numbered) t.head bs f = given_of (kit_reading leads numbered) t f is_flat in
       let e : t ≡ whole (kit_reading leads numbered) t.head bs f = λ i. record { head = t.head; regions = is_flat.view.region i } in
       let best = flat_best leads numbered same sameness same_block block_law type_at t f pass.facts is_flat typed pass.best in
       let agree = subst (λ z. AreFlatly leads {N = N} type_at z (names_in bs) pass.facts best.0) e best.2 in
-      let is_made = subst (λ z. AreMadeConstants kit z pass.facts pass.made) e pass.is_made in
+      let none = subst (λ z. NothingPinned w z) e unpinned in
+      let is_made = subst (λ z. AreMadeConstants kit w z pass.facts pass.made) e pass.is_made in
       let is : after ≡ put_root {N = N} kit pass.made (whole (kit_reading leads numbered) t.head bs f) = pass.is ∙ ap (put_root {N = N} kit pass.made) e in
       record {
         put = map (replace_block (use_of (numbers pass.made))) (map (put_block (numbers pass.made)) f);
@@ -178,8 +213,8 @@ module _ {N : Names} (leads : TypeHandle → Option KitType) (numbered : List �
           facts = best.0;
           best = best.1;
           made = numbers pass.made;
-          gets = made_exactly leads numbered type_at t.head bs f given pass.facts best.0 agree pass.made is_made;
+          gets = made_exactly leads numbered type_at t.head bs f given pass.facts best.0 agree w none pass.made is_made;
           is = refl;
         };
-        is_view = subst (λ z. FlattensTo {N = fresh N} (kit_reading leads numbered) z (rest pass.made f)) (sym is) (put_flat leads numbered type_at t.head bs f given pass.facts best.0 agree pass.made is_made);
+        is_view = subst (λ z. FlattensTo {N = fresh N} (kit_reading leads numbered) z (rest pass.made f)) (sym is) (put_flat leads numbered type_at t.head bs f given pass.facts best.0 agree w none pass.made is_made);
       }

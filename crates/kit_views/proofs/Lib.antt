@@ -18,6 +18,7 @@ pub mod BestBoth
 pub mod FlatBest
 pub mod PutIn
 pub mod Calculated
+pub mod FlatUses
 pub mod PutBlocks
 pub mod PutNames
 pub mod FlatPropagation

@@ -69,13 +69,14 @@ FlatFacts N = (same : N.value → N.value → Bool) (same_block : N.block → N.
     (l : facts.FunctionFacts N.value) × facts.AreMostPreciseFacts (Some f) l
     × AreFlatly leads type_at t (names_in is_flat.view.blocks) k l
 
--- constants put into the tree of a typed function are constants put into its flat view
+-- constants put into the tree of a typed function, in which nothing is named from outside, are constants put into its flat
+-- view
 abbrev pub FlatSccp : Names → Type 0
 FlatSccp N = (same : N.value → N.value → Bool) (same_block : N.block → N.block → Bool)
     (leads : TypeHandle → Option KitType) (numbered : List ℕ → ℕ) (type_at : N.value → TypeHandle)
-    (t : Root N kit_contents) (after : Root (fresh N) kit_contents) (f : Fun N.value) →
+    (w : TreeSurroundings N IntegerAttr) (t : Root N kit_contents) (after : Root (fresh N) kit_contents) (f : Fun N.value) →
     IsSameness same → IsSameness same_block → FlattensTo (kit_reading leads numbered) t f →
-    IsTyped leads {N = N} type_at t → IsSccp kit t after → IsPropagatedView {N = N} leads numbered f after
+    IsTyped leads {N = N} type_at t → NothingPinned w t → IsSccp kit w t after → IsPropagatedView {N = N} leads numbered f after
 
 -- branches that constants decide, decided in the tree of a typed function, are decided in its flat view
 abbrev pub FlatDecided : Names → Type 0

@@ -222,7 +222,7 @@ sccp_law = λ types typed t after writable good named.
     let leads : TypeHandle → Option KitType = leads_by types in
     let numbers : (v : Value) (a : IntegerAttr) → x.made v ≡ Some a → IsNumber types a = λ v a e.
     let gets = x.is_made.gets v a e in
-    let fit = fits leads typed t good x.facts x.best v a gets in
+    let fit = fits leads typed t good x.facts x.best named.around v a gets in
     let of : TypeOf leads typed t good v = ⊎_elim (λ r. result_type leads typed t good v r.definer r.stands r.result)
     (λ r. argument_type leads typed t good v r.definer r.stands r.argument) gets.place in
     let same_type : of.type ≡ a.ty = some_same of.type a.ty (sym of.was ∙ fit.typed) in

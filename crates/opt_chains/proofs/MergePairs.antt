@@ -22,6 +22,7 @@ use Rattle.ir_program.proofs.made.Frames.{same_or_not}
 use Rattle.ir_trees.proofs.Members.{Has, Once, at_has, once_of}
 use Rattle.ir_trees.proofs.HandleTests.{block_no}
 use Rattle.opt_inside.proofs.Around.{HasLists, around_block}
+use Rattle.opt_handles.proofs.Handles.{erased_twice, stays_gone}
 use Rattle.opt_chains.specs.Merging.{front, without, IsJoint, IsReadyToJoin, JoinsBlocks}
 use Rattle.opt_chains.specs.declared.merging.Join.{Join}
 use Rattle.opt_chains.proofs.MergeLists.{none_listed, something, last_at, remove_last, found_or_not, left_out, without_none}
@@ -183,12 +184,13 @@ module _ {O B : Type 0} where
       pub joined_blocks : (new : Program O B) → ErasesBlock m2 new j.block → JoinsBlocks old new j
       joined_blocks new e3 = record {
         operations = λ p ne. e3.operations p (λ i. let e : OperationNode p ≡ BlockNode j.block = only_block (OperationNode p) i in cc) ∙ e2.operations p ∙ operations1 p ne;
-        branch = e3.operations j.branch (λ i. let e : OperationNode j.branch ≡ BlockNode j.block = only_block (OperationNode j.branch) i in cc) ∙ e2.operations j.branch ∙ branch1;
+        branch = stays_gone m2 new e3.erased (OperationNode j.branch) (stays_gone m1 m2 e2.erased (OperationNode j.branch) (e1.gone (OperationNode j.branch) (ap is_some joint.there) itself));
         first = blocks3 j.first ready.other ∙ e2.donee_edited ∙ ap (option_map (λ (v : BlockView B). record v { operations = v.operations ++ operations_in m1 j.block })) first1 ∙ twice (block_at old j.first)
             ∙ ap (λ l. option_map (λ (v : BlockView B). record v { operations = front v.operations ++ l }) (block_at old j.first)) (ap (λ o. unwrap_or (option_map (λ (v : BlockView B). v.operations) o) []) (blocks1 j.block (λ e. ready.other (sym e))));
-        block = (e3.gone (BlockNode j.block) emptied_there itself).0;
+        block = e3.gone (BlockNode j.block) emptied_there itself;
         blocks = λ b nf nb. blocks3 b nb ∙ e2.others b nf nb ∙ blocks1 b nf;
         regions = λ r. region3 r ∙ ap (less_if j.block) (region2 r);
+        erased = erased_twice old m2 new (erased_twice old m1 m2 e1.erased e2.erased) e3.erased;
       } where
         only_block : (e : IRNode) → StandsInside m2 (BlockNode j.block) e → e ≡ BlockNode j.block
         only_block e i = empty_block m2 j.block emptied e i

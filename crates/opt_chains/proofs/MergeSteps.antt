@@ -1,7 +1,9 @@
 -- Several blocks joined one after the other.
 use Rattle.std.proofs.Common.{◌≡◌, ◌≢◌, ◌⊎◌, inl, inr, ⊎_elim, ℕ, zero, suc, ◌+◌, Bool, true, false, cond, List, [], ◌∷◌, ◌++◌, length, take, Option, Some, None, IsSome, option_map, unwrap_or, slice_get, refl, sym, ap, ◌∙◌, subst, add-one, append_assoc}
 use Rattle.std.specs.Prelude.{if◌then◌else◌}
+use Rattle.ir_program.specs.Erased.{IsGone}
 use Rattle.ir_program.specs.Lists.{operations_in, blocks_in, StandsInRegion}
+use Rattle.ir_program.specs.declared.handles.IRNode.TheVariants.{Operation as OperationNode, BasicBlock as BlockNode}
 use Rattle.ir_program.specs.Program.{Program, OperationView, BlockView, RegionView, operation_at, block_at, region_at}
 use Rattle.ir_program.specs.Replacing.{same_block}
 use Rattle.ir_program.specs.declared.handles.Ptr.{Ptr}
@@ -12,6 +14,7 @@ use Rattle.ir_program.proofs.made.Frames.{same_or_not}
 use Rattle.ir_trees.proofs.HandleTests.{block_yes, block_no}
 use Rattle.ir_trees.proofs.Members.{Has, at_has, has_at}
 use Rattle.opt_inside.proofs.Around.{HasLists}
+use Rattle.opt_handles.proofs.Handles.{erased_none, erased_twice, stays_gone}
 use Rattle.opt_chains.specs.Merging.{front, without, held, is_taken, last_of, along, AreTogether, IsReadyToJoin, TakesNoArgument, IsNextJoin, JoinsBlocks, HasJoined}
 use Rattle.opt_chains.specs.declared.merging.Join.{Join}
 use Rattle.opt_chains.proofs.MergeLists.{none_listed, last_at, front_last, front_both, without_none, without_both}
@@ -101,6 +104,8 @@ module _ {O B : Type 0} (old : Program O B) where
   none_joined = record {
     operations = λ p h. refl;
     branches = λ k j h. absurd (none_listed k j h);
+    taken = λ b h. let f : false ≡ true = h in cc;
+    erased = erased_none old;
     blocks = λ b h. same_block_view (block_at old b);
     regions = λ r. same_region_view (region_at old r);
   } where
@@ -136,7 +141,7 @@ module _ {O B : Type 0} (old : Program O B) where
 
     -- what an operation is by now
     pub operation_now : (q : Ptr Operation) → (operation_at mid q ≡ None) ⊎ (operation_at mid q ≡ operation_at old q)
-    operation_now q = by_search js (λ k i h. done.branches k i h) (λ h. done.operations q h) where
+    operation_now q = by_search js (λ k i h. (done.branches k i h).0) (λ h. done.operations q h) where
       by_search : (is : List Join) → ((k : ℕ) (i : Join) → slice_get is k ≡ Some i → operation_at mid i.branch ≡ None) → (((k : ℕ) (i : Join) → slice_get is k ≡ Some i → i.branch ≢ q) → operation_at mid q ≡ operation_at old q)
           → (operation_at mid q ≡ None) ⊎ (operation_at mid q ≡ operation_at old q)
       by_search [] gone same = inr (same (λ k i h. absurd (none_listed k i h)))
@@ -196,8 +201,8 @@ module _ {O B : Type 0} (old : Program O B) where
       operations = λ p h.
           step.operations p (λ e. h (length js) j (last_at js j) (sym e)) ∙ done.operations p (λ k i g. h k i (at_front js (j ∷ []) k i g));
       branches = λ k i h. ⊎_elim
-          (λ (g : slice_get js k ≡ Some i). step.operations i.branch (next.branch_left i k g) ∙ done.branches k i g)
-          (λ (e : i ≡ j). subst (λ (x : Join). operation_at new x.branch ≡ None) (sym e) step.branch)
+          (λ (g : slice_get js k ≡ Some i). stays_gone mid new step.erased (OperationNode i.branch) (done.branches k i g))
+          (λ (e : i ≡ j). subst (λ (x : Join). IsGone new (OperationNode x.branch)) (sym e) step.branch)
           (at_more js j i k h);
       blocks = λ b h.
           let t : cond (same_block b j.block) true (is_taken js b) ≡ false = sym (taken_more js j b) ∙ h in
@@ -207,7 +212,13 @@ module _ {O B : Type 0} (old : Program O B) where
           (λ (e : b ≡ j.first). subst (λ x. block_at new x ≡ option_map (λ (v : BlockView B). record v { operations = along old v.operations (held (js ++ j ∷ []) x) }) (block_at old x)) (sym e) at_first)
           (λ (ne : b ≢ j.first). step.blocks b ne other ∙ done.blocks b two.1 ∙ ap (λ cs. option_map (λ (v : BlockView B). record v { operations = along old v.operations cs }) (block_at old b)) (sym (held_more js j b ne)))
           (same_or_not b j.first);
+      taken = λ b h. ⊎_elim
+          (λ (e : b ≡ j.block). subst (λ x. IsGone new (BlockNode x)) (sym e) step.block)
+          (λ (ne : b ≢ j.block). stays_gone mid new step.erased (BlockNode b)
+          (done.taken b (sym (ap (λ s. cond s true (is_taken js b)) (block_no b j.block ne)) ∙ sym (taken_more js j b) ∙ h)))
+          (same_or_not b j.block);
       regions = λ r. step.regions r ∙ ap (less_if j) (done.regions r) ∙ less_both (region_at old r);
+      erased = erased_twice old mid new done.erased step.erased;
     } where
       at_first : block_at new j.first ≡ option_map (λ (v : BlockView B). record v { operations = along old v.operations (held (js ++ j ∷ []) j.first) }) (block_at old j.first)
       at_first = step.first ∙ ap (option_map (λ (v : BlockView B). record v { operations = front v.operations ++ operations_in mid j.block })) (done.blocks j.first next.kept)

@@ -7,6 +7,7 @@ use Rattle.ir_program.specs.Replacing.{same_value, replacing}
 use Rattle.ir_program.specs.declared.handles.Value.{Value}
 use Rattle.ir_program.proofs.used.Renaming.{value-test}
 use Rattle.ir_trees.specs.Searched.{Lists}
+use Rattle.opt_handles.proofs.Handles.{erased_none, erased_twice}
 use Rattle.opt_chains.specs.MergedValues.{standing, AreFinal, TakesInstead}
 use Rattle.opt_chains.specs.declared.merge_values.StandIn.{StandIn}
 use Rattle.opt_chains.proofs.MergeLists.{none_listed}
@@ -39,7 +40,7 @@ below_taken (y ∷ xs) (suc n) (suc k) x h = below_taken xs n k x h
 
 module _ {O B : Type 0} where
   pub none_instead : (c : Program O B) → TakesInstead c c (standing [])
-  none_instead c = record { operations = λ p. each (operation_at c p); blocks = λ b. refl; regions = λ r. refl } where
+  none_instead c = record { operations = λ p. each (operation_at c p); blocks = λ b. refl; regions = λ r. refl; erased = erased_none c } where
     each : (o : Option (OperationView O)) → o ≡ option_map (λ (v : OperationView O). record v { operands = map (standing []) v.operands }) o
     each None = refl
     each (Some v) = ap (λ l. Some (record v { operands = l })) (sym (map_same (standing []) v.operands (λ x. refl)))
@@ -49,6 +50,7 @@ module _ {O B : Type 0} where
     operations = λ p. step.edited p ∙ ap (option_map (λ (v : OperationView O). record v { operands = map (replacing s.argument s.value) v.operands })) (done.operations p) ∙ both (operation_at old p);
     blocks = λ b. step.blocks b ∙ done.blocks b;
     regions = λ r. step.regions r ∙ done.regions r;
+    erased = erased_twice old mid new done.erased step.erased;
   }) where
     both : (o : Option (OperationView O)) → option_map (λ (v : OperationView O). record v { operands = map (replacing s.argument s.value) v.operands }) (option_map (λ (v : OperationView O). record v { operands = map (standing (take i ss)) v.operands }) o)
         ≡ option_map (λ (v : OperationView O). record v { operands = map (standing (take i ss ++ s ∷ [])) v.operands }) o

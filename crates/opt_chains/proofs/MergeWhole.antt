@@ -3,6 +3,7 @@ use Rattle.std.proofs.Common.{◌≡◌, ◌≢◌, ◌⊎◌, inl, inr, ⊎_eli
 use Rattle.std.specs.Prelude.{if◌then◌else◌}
 use Rattle.ir_base.specs.declared.types.TypeHandle.{TypeHandle}
 use Rattle.ir_program.specs.Definers.{StandsAtDefiner, values_at}
+use Rattle.ir_program.specs.Erased.{IsGone}
 use Rattle.ir_program.specs.Lists.{operations_in, blocks_in, StandsInBlock, StandsInRegion, StandsInside, itself, in_block, in_region, in_operation, regions_in}
 use Rattle.ir_program.specs.Program.{Program, TypedValue, OperationView, BlockView, RegionView, operation_at, block_at, region_at, arguments_at, value_in, type_at, IsLiveValue}
 use Rattle.ir_program.specs.Replacing.{same_block}
@@ -39,7 +40,9 @@ use Rattle.opt_chains.specs.Phases.{MergesBlocks}
 use Rattle.opt_chains.specs.declared.merging.Join.{Join}
 use Rattle.opt_chains.specs.declared.merge_values.StandIn.{StandIn}
 use Rattle.opt_chains.proofs.ChainBare.{last_under}
-use Rattle.opt_chains.proofs.MergeLists.{none_listed, something, same_some, not_true, last_at, in_front, without_none}
+use Rattle.opt_handles.specs.Handles.{KeepsHandles}
+use Rattle.opt_handles.proofs.Handles.{erased_twice}
+use Rattle.opt_chains.proofs.MergeLists.{none_listed, something, same_some, not_true, true_or_false, last_at, in_front, without_none}
 use Rattle.opt_chains.proofs.MergePairs.{is_used}
 use Rattle.opt_chains.proofs.MergeSteps.{held_more, held_first, take_more, none_joined}
 use Rattle.opt_chains.proofs.MergeValues.{none_instead}
@@ -565,12 +568,48 @@ module _ {O B A : Type 0} (d : Dialect (in_program O B) A) (place : StartingRegi
     none_come : AddsNoneOutside old new op
     none_come p live out =
         let left : IsLeft p = λ k j here e.
-        let none : operation_at new p ≡ None = ap (operation_at new) (sym e) ∙ joined.branches k j here in
+        let none : operation_at new p ≡ None = ap (operation_at new) (sym e) ∙ (joined.branches k j here).0 in
         let some : IsSome {T = OperationView O} None = subst IsSome none live in cc in (
           some_mapped (λ (x : OperationView O). record x { operands = map (standing ss) x.operands }) (operation_at old p)
               (subst IsSome (joined.operations p left ∙ takes.operations p) live),
           λ inside. out (still_inside (OperationNode p) inside left),
         )
+
+    -- an operation is the branch of a step, or of none
+    branch_or_left : (p : Ptr Operation) → ((k : ℕ) × (j : Join) × (slice_get js k ≡ Some j) × (j.branch ≡ p)) ⊎ IsLeft p
+    branch_or_left p = search_in js where
+      search_in : (is : List Join) → ((k : ℕ) × (j : Join) × (slice_get is k ≡ Some j) × (j.branch ≡ p))
+          ⊎ ((k : ℕ) (j : Join) → slice_get is k ≡ Some j → j.branch ≢ p)
+      search_in [] = inr (λ k j h. absurd (none_listed k j h))
+      search_in (i ∷ is) = ⊎_elim
+          (λ (e : i.branch ≡ p). inl (zero, i, refl, e))
+          (λ (ne : i.branch ≢ p). ⊎_elim
+          (λ later. inl (suc later.0, later.1, later.2, later.3))
+          (λ none. inr (at_each i is ne none))
+          (search_in is))
+          (same_or_not i.branch p)
+        where
+          at_each : (x : Join) (xs : List Join) → x.branch ≢ p → ((k : ℕ) (j : Join) → slice_get xs k ≡ Some j → j.branch ≢ p)
+              → (k : ℕ) (j : Join) → slice_get (x ∷ xs) k ≡ Some j → j.branch ≢ p
+          at_each x xs ne none zero j h = let s : Some x ≡ Some j = h in let t : x ≡ j = cc in subst (λ (y : Join). y.branch ≢ p) t ne
+          at_each x xs ne none (suc k) j h = none k j h
+
+    -- branches of steps and blocks that are taken are erased, and all else inside the root is inside it still
+    inside_or_gone : (e : IRNode) → StandsInside old (OperationNode op) e → StandsInside new (OperationNode op) e ⊎ IsGone new e
+    inside_or_gone (OperationNode p) i = ⊎_elim
+        (λ (s : (k : ℕ) × (j : Join) × (slice_get js k ≡ Some j) × (j.branch ≡ p)).
+        inr (subst (λ x. IsGone new (OperationNode x)) s.3 (joined.branches s.0 s.1 s.2)))
+        (λ left. inl (still_inside (OperationNode p) i left))
+        (branch_or_left p)
+    inside_or_gone (RegionNode r) i = inl (still_inside (RegionNode r) i)
+    inside_or_gone (BlockNode b) i = ⊎_elim
+        (λ (h : is_taken js b ≡ true). inr (joined.taken b h))
+        (λ (free : is_taken js b ≡ false).
+        let m = still_inside (BlockNode b) i in inl (block_now b m.0 m.1 free m.2))
+        (true_or_false (is_taken js b))
+
+    pub handles_kept : KeepsHandles old new op
+    handles_kept = record { erased = erased_twice old mid new takes.erased joined.erased; inside = inside_or_gone }
 
     -- all in all
     pub merges_blocks : StandsFor old op t → MergesBlocks d place old new op t

@@ -1,6 +1,7 @@
 -- Values in place of the arguments of blocks that are joined.
 use Rattle.std.specs.Prelude.{◌≡◌, ◌≢◌, cond, List, [], ◌∷◌, map, option_map}
 use Rattle.ir_program.specs.Program.{Program, OperationView, operation_at, block_at, region_at, IsLiveValue}
+use Rattle.ir_program.specs.Edits.{KeepsErased}
 use Rattle.ir_program.specs.Replacing.{same_value}
 use Rattle.ir_program.specs.declared.handles.Ptr.{Ptr}
 use Rattle.ir_program.specs.declared.handles.Operation.{Operation}
@@ -29,3 +30,4 @@ module _ {O B : Type 0} where
     pub operations : (p : Ptr Operation) → operation_at new p ≡ option_map (λ (o : OperationView O). record o { operands = map f o.operands }) (operation_at old p)
     pub blocks : (b : Ptr BasicBlock) → block_at new b ≡ block_at old b
     pub regions : (r : Ptr Region) → region_at new r ≡ region_at old r
+    pub erased : KeepsErased old new

@@ -1,7 +1,10 @@
 -- What joining blocks makes of a program, step by step.
 use Rattle.std.specs.Prelude.{◌≡◌, ◌≢◌, ℕ, Bool, true, false, cond, if◌then◌else◌, List, [], ◌∷◌, ◌++◌, Some, None, IsSome, option_map, slice_get, take}
 use Rattle.ir_program.specs.Program.{Program, OperationView, BlockView, RegionView, operation_at, block_at, region_at}
+use Rattle.ir_program.specs.Edits.{KeepsErased}
+use Rattle.ir_program.specs.Erased.{IsGone}
 use Rattle.ir_program.specs.Lists.{operations_in, StandsInRegion}
+use Rattle.ir_program.specs.declared.handles.IRNode.TheVariants.{Operation as OperationNode, BasicBlock as BlockNode}
 use Rattle.ir_program.specs.Replacing.{same_block}
 use Rattle.ir_program.specs.Rows.{operands_at, successors_at}
 use Rattle.ir_program.specs.declared.handles.Ptr.{Ptr}
@@ -85,18 +88,21 @@ module _ {O B : Type 0} (c : Program O B) where
   AreJoins js = (k : ℕ) (j : Join) → slice_get js k ≡ Some j → IsNextJoin (take k js) j
 
 module _ {O B : Type 0} (old new : Program O B) where
-  -- the operations of the block stand behind those of the first in place of its branch, the block and the branch are gone, and all else is as it was
+  -- the operations of the block stand behind those of the first in place of its branch, the block and the branch are erased, and all else is as it was
   pub record JoinsBlocks (j : Join) : Type 0 where
     pub operations : (p : Ptr Operation) → p ≢ j.branch → operation_at new p ≡ operation_at old p
-    pub branch : operation_at new j.branch ≡ None
+    pub branch : IsGone new (OperationNode j.branch)
     pub first : block_at new j.first ≡ option_map (λ (v : BlockView B). record v { operations = front v.operations ++ operations_in old j.block }) (block_at old j.first)
-    pub block : block_at new j.block ≡ None
+    pub block : IsGone new (BlockNode j.block)
     pub blocks : (b : Ptr BasicBlock) → b ≢ j.first → b ≢ j.block → block_at new b ≡ block_at old b
     pub regions : (r : Ptr Region) → region_at new r ≡ option_map (λ (v : RegionView). record { blocks = without (λ b. same_block b j.block) v.blocks }) (region_at old r)
+    pub erased : KeepsErased old new
 
   -- what these steps make of a program
   pub record HasJoined (js : List Join) : Type 0 where
     pub operations : (p : Ptr Operation) → ((k : ℕ) (j : Join) → slice_get js k ≡ Some j → j.branch ≢ p) → operation_at new p ≡ operation_at old p
-    pub branches : (k : ℕ) (j : Join) → slice_get js k ≡ Some j → operation_at new j.branch ≡ None
+    pub branches : (k : ℕ) (j : Join) → slice_get js k ≡ Some j → IsGone new (OperationNode j.branch)
+    pub taken : (b : Ptr BasicBlock) → is_taken js b ≡ true → IsGone new (BlockNode b)
     pub blocks : (b : Ptr BasicBlock) → is_taken js b ≡ false → block_at new b ≡ option_map (λ (v : BlockView B). record v { operations = along old v.operations (held js b) }) (block_at old b)
     pub regions : (r : Ptr Region) → region_at new r ≡ option_map (λ (v : RegionView). record { blocks = without (is_taken js) v.blocks }) (region_at old r)
+    pub erased : KeepsErased old new

@@ -2,6 +2,7 @@
 ghost use Rattle.std.specs.Prelude.{◌≡◌, IsSome};
 ghost use Rattle.ir_program.specs.Program.{operation_at};
 ghost use Rattle.ir_trees.specs.Stands.{ProgramTree, StandsFor, by_handle};
+ghost use Rattle.opt_handles.specs.Handles.{KeepsHandles};
 ghost use Rattle.opt_inside.specs.reach.Edges.{HasLocalEdgesFrom};
 ghost use Rattle.opt_inside.specs.reach.Starts.{IsStartIn};
 ghost use Rattle.opt_trees.specs.Simplify.{StartingRegions};
@@ -18,7 +19,8 @@ use opt_inside::know_occurrences;
 use opt_inside::reach::Start;
 use std::alloc::Global;
 
-/// Joins all chains of blocks below an operation. No memory is asked for.
+/// Joins all chains of blocks below an operation: the branches and the blocks that go are erased, and all else keeps its
+/// handle. No memory is asked for.
 pub fn apply_plan<D: Meanings, T: TypeTable>(
     alloc: Global,
     op: Ptr<Operation>,
@@ -36,6 +38,7 @@ pub fn apply_plan<D: Meanings, T: TypeTable>(
     ensures merged { (p : StartingRegions by_handle) → IsStartIn ctx.old.program _start p
         → (t : ProgramTree D.Operation D.Block) → StandsFor ctx.old.program op t
         → MergesBlocks D.meaning p ctx.old.program ctx.new.program op t }
+    ensures handles { KeepsHandles ctx.old.program ctx.new.program op }
     ensures numbers { ctx.new.program.counter ≡ ctx.old.program.counter }
     ensures types { ctx.new.types ≡ ctx.old.types }
 {

@@ -13,6 +13,7 @@ use Rattle.ir_program.proofs.made.Frames.{same_or_not}
 use Rattle.ir_trees.specs.ListRewrites.{same_operation, is_among}
 use Rattle.ir_trees.specs.Searched.{AreDistinct}
 use Rattle.ir_trees.proofs.Members.{at_has, has_at}
+use Rattle.opt_handles.proofs.Handles.{erased_none, erased_twice}
 use Rattle.opt_inside.proofs.Around.{HasLists}
 use Rattle.opt_dce.specs.Steps.{without, without_operations, IsWithinPicked, DetachesPicked}
 use Rattle.opt_dce.proofs.Among.{and_also, among_more, among_has, has_among}
@@ -22,7 +23,7 @@ use Rattle.opt_dce.proofs.Turns.{taken}
 
 module _ {O B : Type 0} where
   pub none_detached : (c : Program O B) → DetachesPicked c c (λ p. false)
-  none_detached c = record { operations = λ p. refl; blocks = λ b. all_left (block_at c b); regions = λ r. refl }
+  none_detached c = record { operations = λ p. refl; blocks = λ b. all_left (block_at c b); regions = λ r. refl; erased = erased_none c }
 
   module _ (old new : Program O B) (picks : Ptr Operation → Bool) (detaches : DetachesPicked old new picks) where
     operations_are : (b : Ptr BasicBlock) → operations_in new b ≡ without picks (operations_in old b)
@@ -112,6 +113,7 @@ module _ {O B : Type 0} where
             operations = λ p. edits.operations p ∙ done.operations p;
             blocks = λ b. out_of b ∙ ap (option_map (without_operations (λ p. same_operation p a))) (done.blocks b) ∙ one_more_left a (is_among (take i ops)) (block_at old b);
             regions = λ r. edits.regions r ∙ done.regions r;
+            erased = erased_twice old mid new done.erased edits.erased;
           }
 
       pub detached_next : DetachesPicked old new (is_among (take (i + 1) ops))

@@ -17,6 +17,7 @@ use Rattle.ir_program.proofs.made.Frames.{same_or_not}
 use Rattle.ir_trees.specs.ListRewrites.{same_operation, is_among}
 use Rattle.ir_trees.proofs.HandleTests.{operation_no}
 use Rattle.ir_trees.proofs.Members.{Has, at_has, has_at}
+use Rattle.opt_handles.proofs.Handles.{erased_none, erased_twice}
 use Rattle.opt_inside.proofs.Around.{HasLists, inside_both}
 use Rattle.opt_dce.specs.Steps.{without, without_operations, IsWithinPicked, ErasesPicked, ErasesIfThere, DecidesInside, NamesNone}
 use Rattle.opt_dce.proofs.Among.{and_also, also_it, also_picked, it_or_picked, among_more, has_among}
@@ -157,6 +158,7 @@ module _ {O B : Type 0} where
         regions = λ r out. done.regions r (not_picked (RegionNode r) out);
         gone = λ e there h. ⊎_elim (λ l. absurd (not_left e l (inside_it e l h))) (λ g. g) (done.decided e there);
         decided = done.decided;
+        erased = done.erased;
       } where
         not_left : (e : IRNode) → IsLiveNode mid e → StandsInside old (OperationNode a) e → ⊥
         not_left e l i = nothing (operation_at mid a) none (still_live (OperationNode a) (λ h. live_outside e l (h.0, h.1, inside_both old (OperationNode h.0) (OperationNode a) e h.2 i)) live)
@@ -201,6 +203,7 @@ module _ {O B : Type 0} where
               (λ l. ⊎_elim (λ i. inr (erases.gone e l i)) (λ out. inl (live_still e out l)) (decides e))
               (λ g. inr (gone_still mid new erases.erased e g))
               (done.decided e there);
+          erased = erased_twice old mid new done.erased erases.erased;
         }
 
   -- nothing is erased
@@ -212,6 +215,7 @@ module _ {O B : Type 0} where
     regions = λ r out. refl;
     gone = λ e there h. let f : false ≡ true = h.1 in cc;
     decided = λ e there. inl there;
+    erased = erased_none c;
   }
 
   -- what operations name of what is left they named before

@@ -118,4 +118,5 @@ module _ {O B A : Type 0} (d : Dialect (in_program O B) A) where
           ∙ done.others p (λ m h. out m (before_next (λ (x : LostOperands). x.op) ls once i l here m h));
       blocks = λ b. edits.blocks b ∙ done.blocks b;
       regions = λ r. edits.regions r ∙ done.regions r;
+      erased = erased_both old mid new done.erased edits.erased;
     }

@@ -9,6 +9,7 @@ use Rattle.ir_trees.specs.Stands.{by_handle, in_program, ProgramTree, StandsFor}
 use Rattle.opt_trees.specs.Dialect.{Dialect}
 use Rattle.opt_trees.specs.Dce.{TreeSurroundings, Gone, IsGoneExactly}
 use Rattle.opt_dialect.specs.declared.status.IRStatus.TheVariants.{Unchanged, Changed}
+use Rattle.opt_handles.specs.Handles.{KeepsHandles}
 use Rattle.opt_dce.specs.liveness.Plans.{IsPlan, UsesGo, IsDeadPlan}
 use Rattle.opt_dce.specs.declared.liveness.plan.DeadPlan.{DeadPlan}
 use Rattle.opt_dce.specs.declared.liveness.plan.DeadArguments.{DeadArguments}
@@ -110,6 +111,12 @@ module _ {O B A : Type 0} (d : Dialect (in_program O B) A) (c : Program O B) (op
 
     pub nothing_made : IsIdle plan → IsOutcome d c c op t Unchanged
     nothing_made idle = same_outcome d c op plan t stands (dead t) (idle_is.0 idle)
+
+    pub something_kept : (new : Program O B)
+        → ((g : Gone by_handle) → IsPlan c g plan → UsesGo c g → GoesBelowRoot c op g → (u : ProgramTree O B) → StandsFor c op u → TakesOut d c new op g u)
+        → KeepsHandles c new op
+    something_kept new takes =
+        (takes (dead t).gone (dead t).plan_of (dead t).uses (knows.below t stands (dead t).around (dead t).gone ((dead t).is_gone stands)) t stands).handles
 
     pub something_made : (new : Program O B) → (IsIdle plan → ⊥)
         → ((g : Gone by_handle) → IsPlan c g plan → UsesGo c g → GoesBelowRoot c op g → (u : ProgramTree O B) → StandsFor c op u → TakesOut d c new op g u)

@@ -1,8 +1,8 @@
--- No operation comes to be outside the root where what is dead goes.
-use Rattle.std.proofs.Common.{◌≡◌, ℕ, zero, suc, Bool, true, false, List, [], ◌∷◌, Option, Some, None, IsSome, option_map}
+-- No operation comes to be outside the root where what is dead goes, and handles are kept.
+use Rattle.std.proofs.Common.{◌≡◌, inl, inr, ⊎_elim, ℕ, zero, suc, Bool, true, false, List, [], ◌∷◌, Option, Some, None, IsSome, option_map}
 use Rattle.std.proofs.Common.{unwrap_or, slice_get, refl, sym, ap, ◌∙◌, subst}
 use Rattle.std.specs.Prelude.{if◌then◌else◌}
-use Rattle.ir_program.specs.Lists.{StandsInside, itself, in_block, in_region, in_operation}
+use Rattle.ir_program.specs.Lists.{StandsInside, itself, in_block, in_region, in_operation, IsLiveNode}
 use Rattle.ir_program.specs.Program.{Program, OperationView, BlockView, RegionView, operation_at, block_at}
 use Rattle.ir_program.specs.declared.handles.IRNode.{IRNode}
 use Rattle.ir_program.specs.declared.handles.IRNode.TheVariants.{Operation as OperationNode, Region as RegionNode}
@@ -14,6 +14,8 @@ use Rattle.opt_trees.specs.Dialect.{Dialect}
 use Rattle.opt_trees.specs.Dce.{Gone, Whole}
 use Rattle.opt_dce.specs.liveness.Plans.{GoesWith}
 use Rattle.opt_dce.specs.Steps.{without, GoesBelowRoot, loses, thin_block, HasThinned}
+use Rattle.opt_handles.specs.Handles.{KeepsHandles}
+use Rattle.opt_handles.proofs.Handles.{not_both}
 use Rattle.opt_inside.specs.Outside.{AddsNoneOutside}
 use Rattle.opt_dce.proofs.Picking.{not_true}
 
@@ -104,6 +106,24 @@ module _ {O B A : Type 0} (d : Dialect (in_program O B) A) (old new : Program O 
   below_there : (a : Ptr Operation) → g.item (Whole a) ≡ true → IsSome (operation_at old a)
   below_there a goes = there_in (OperationNode op) (OperationNode a) (below.operations a goes).inside a refl
       (λ e. let same : a ≡ op = cc in absurd ((below.operations a goes).other same))
+
+  -- what is inside the root is there
+  inside_there : IsSome (operation_at old op) → (e : IRNode) → StandsInside old (OperationNode op) e → IsLiveNode old e
+  inside_there live _ itself = live
+  inside_there live _ (in_block p b s i) = s.operation
+  inside_there live _ (in_region b r s i) = s.block
+  inside_there live _ (in_operation r p s i) = s.region
+
+  pub handles_kept : IsSome (operation_at old op) → KeepsHandles old new op
+  handles_kept root = record {
+    erased = thinned.erased;
+    inside = λ e i.
+        let there = inside_there root e i in
+        ⊎_elim
+        (λ live. inl (still_inside e i (λ goes. not_both new e (thinned.gone e there goes) live)))
+        inr
+        (thinned.decided e there);
+  }
 
   pub adds_none : AddsNoneOutside old new op
   adds_none p live out =

@@ -26,6 +26,7 @@ use Rattle.ir_trees.specs.Trees.{Defined}
 use Rattle.ir_trees.proofs.Members.{at_has, has_at}
 use Rattle.opt_trees.specs.Dialect.{Dialect, drop, Lawful}
 use Rattle.opt_trees.specs.Dce.{Gone, Whole, Slot, gone_at}
+use Rattle.opt_handles.proofs.Handles.{erased_twice}
 use Rattle.opt_inside.proofs.Around.{HasLists}
 use Rattle.opt_dialect.specs.Masks.{marked}
 use Rattle.opt_dce.specs.liveness.Plans.{GoesWith, IsGoing, UsesGo, IsPlan}
@@ -306,6 +307,20 @@ module _ {O B A : Type 0} (d : Dialect (in_program O B) A) (law : Lawful d) (old
             live_bare (BlockNode b) there = bare_kept.block b ∙ block_is lost apart among detaches b ∙ lost_kept.block b ∙ there
             live_bare (RegionNode r) there = bare_kept.region r ∙ ap is_some (detaches.regions r) ∙ lost_kept.region r ∙ there
 
+            -- what is left is there still
+            live_new : (e : IRNode) → IsLiveNode rest e → IsLiveNode new e
+            live_new (OperationNode p) there = ap is_some (loses_arguments_of.operations p) ∙ there
+            live_new (RegionNode r) there = ap is_some (loses_arguments_of.regions r) ∙ there
+            live_new (BlockNode b) there = ⊎_elim
+                (λ (a : (a : DeadArguments) × Lists plan.arguments.items a × (a.block ≡ b)).
+                subst (λ q. IsSome (block_at rest q) → IsSome (block_at new q)) a.2
+                (λ h. ap is_some (loses_arguments_of.listed a.0 a.1) ∙ arguments_there (marked a.0.marks.items) (block_at rest a.0.block) ∙ h) there)
+                (λ none. ap is_some (loses_arguments_of.others b none) ∙ there)
+                (keyed_or_not (λ (a : DeadArguments). a.block) plan.arguments.items b) where
+                  arguments_there : (picks : ℕ → Bool) (o : Option (BlockView B)) → is_some (option_map (loses_arguments d picks) o) ≡ is_some o
+                  arguments_there picks None = refl
+                  arguments_there picks (Some v) = refl
+
             pub thinned : HasThinned d g old new
             thinned = record {
               operations = λ p out. loses_arguments_of.operations p ∙ erases.operations p (outside (OperationNode p) out)
@@ -317,6 +332,14 @@ module _ {O B A : Type 0} (d : Dialect (in_program O B) A) (law : Lawful d) (old
                   (keyed_or_not (λ (a : DeadArguments). a.block) plan.arguments.items b);
               regions = λ r out. loses_arguments_of.regions r ∙ erases.regions r (outside (RegionNode r) out) ∙ drops.regions r ∙ detaches.regions r ∙ loses_them.regions r;
               gone = λ e there h. gone_still rest new loses_arguments_of.erased e (erases.gone e (live_bare e there) (within_if e h));
+              decided = λ e there. ⊎_elim
+                  (λ l. inl (live_new e l))
+                  (λ g. inr (gone_still rest new loses_arguments_of.erased e g))
+                  (erases.decided e (live_bare e there));
+              erased = erased_twice old rest new
+                  (erased_twice old bare rest
+                  (erased_twice old apart bare (erased_twice old lost apart loses_them.erased detaches.erased) drops.erased) erases.erased)
+                  loses_arguments_of.erased;
             }
 
 -- what the plan says of operations that lose operands

@@ -1,5 +1,5 @@
 -- Where each operation, block and region is as it was without what goes, the tree is so too.
-use Rattle.std.proofs.Common.{◌≡◌, inl, inr, ⊎_elim, ℕ, zero, suc, Bool, true, false, cond, not, List, [], ◌∷◌, map, Option, Some, None, option_map, unwrap_or, slice_get, refl, sym, ap, ◌∙◌, subst}
+use Rattle.std.proofs.Common.{◌≡◌, inl, inr, ⊎_elim, ℕ, zero, suc, Bool, true, false, cond, not, List, [], ◌∷◌, map, Option, Some, None, is_some, option_map, unwrap_or, slice_get, refl, sym, ap, ◌∙◌, subst}
 use Rattle.std.proofs.lemmas.List.{append-nil}
 use Rattle.std.specs.Prelude.{if◌then◌else◌}
 use Rattle.ir_base.specs.declared.types.TypeHandle.{TypeHandle}
@@ -30,7 +30,7 @@ use Rattle.opt_dce.specs.liveness.Plans.{GoesWith}
 use Rattle.opt_dce.specs.Steps.{without, GoesBelowRoot, loses, arguments_gone, thin_block, HasThinned}
 use Rattle.opt_dce.specs.Thins.{TakesOut}
 use Rattle.opt_inside.specs.Outside.{KeepsOutside}
-use Rattle.opt_dce.proofs.OutsideLeft.{adds_none}
+use Rattle.opt_dce.proofs.OutsideLeft.{adds_none, handles_kept}
 use Rattle.opt_dce.proofs.Picking.{not_true, drop_none, without_none, drop_map}
 
 module _ {O B A : Type 0} (d : Dialect (in_program O B) A) (g : Gone by_handle) where
@@ -175,4 +175,4 @@ module _ {O B A : Type 0} (d : Dialect (in_program O B) A) (law : Lawful d) (old
     }
 
     pub taken_out : HasThinned d g old new → (t : ProgramTree O B) → StandsFor old op t → TakesOut d old new op g t
-    taken_out all t stands = record { stands = tree_thinned all t stands; erased = all.gone; outside = outside all; none_come = adds_none d old new op g below all }
+    taken_out all t stands = record { stands = tree_thinned all t stands; erased = all.gone; outside = outside all; none_come = adds_none d old new op g below all; handles = handles_kept d old new op g below all (ap is_some stands.there) }

@@ -69,6 +69,8 @@ module _ {O B A : Type 0} (d : Dialect (in_program O B) A) (g : Gone by_handle) 
         block_at new b ≡ option_map thin_block (block_at old b)
     pub regions : (r : Ptr Region) → (GoesWith old g (RegionNode r) → ⊥) → region_at new r ≡ region_at old r
     pub gone : (e : IRNode) → IsLiveNode old e → GoesWith old g e → IsErased new e
+    pub decided : (e : IRNode) → IsLiveNode old e → IsLiveNode new e ⊎ IsErased new e
+    pub erased : KeepsErased old new
 
 module _ {O B : Type 0} where
   -- the entity is one of the operations that are picked, or stands in one
@@ -86,6 +88,7 @@ module _ {O B : Type 0} where
     pub regions : (r : Ptr Region) → (IsWithinPicked old picks (RegionNode r) → ⊥) → region_at new r ≡ region_at old r
     pub gone : (e : IRNode) → IsLiveNode old e → IsWithinPicked old picks e → IsErased new e
     pub decided : (e : IRNode) → IsLiveNode old e → IsLiveNode new e ⊎ IsErased new e
+    pub erased : KeepsErased old new
 
   -- each entity is inside the operation or isn't
   abbrev pub DecidesInside : Program O B → Ptr Operation → Type 0
@@ -102,6 +105,7 @@ module _ {O B : Type 0} where
     pub operations : (p : Ptr Operation) → operation_at new p ≡ operation_at old p
     pub blocks : (b : Ptr BasicBlock) → block_at new b ≡ option_map (without_operations picks) (block_at old b)
     pub regions : (r : Ptr Region) → region_at new r ≡ region_at old r
+    pub erased : KeepsErased old new
 
   -- no operation takes a value that is defined in what is picked, or may go on to a block there
   pub record NamesNone (c : Program O B) (picks : Ptr Operation → Bool) : Type 0 where
@@ -120,6 +124,7 @@ module _ {O B : Type 0} where
         (operation_at new p ≡ operation_at old p) ⊎ (operation_at new p ≡ option_map without_uses (operation_at old p))
     pub blocks : (b : Ptr BasicBlock) → block_at new b ≡ block_at old b
     pub regions : (r : Ptr Region) → region_at new r ≡ region_at old r
+    pub erased : KeepsErased old new
 
 module _ {O B A : Type 0} (d : Dialect (in_program O B) A) where
   -- each operation of the list is without its marked operands, and all else is as it was
@@ -130,6 +135,7 @@ module _ {O B A : Type 0} (d : Dialect (in_program O B) A) where
         operation_at new p ≡ operation_at old p
     pub blocks : (b : Ptr BasicBlock) → block_at new b ≡ block_at old b
     pub regions : (r : Ptr Region) → region_at new r ≡ region_at old r
+    pub erased : KeepsErased old new
 
   -- each block of the list is without its marked arguments, where it is there, and all else is as it was
   pub record LosesArguments (old new : Program O B) (dead : List DeadArguments) : Type 0 where

@@ -14,17 +14,19 @@ use Rattle.opt_dialect.specs.declared.status.IRStatus.{IRStatus}
 use Rattle.opt_dialect.specs.declared.status.IRStatus.TheVariants.{Unchanged}
 use Rattle.opt_dce.specs.declared.liveness.plan.DeadPlan.{DeadPlan}
 use Rattle.opt_dce.specs.declared.liveness.plan.DeadArguments.{DeadArguments}
+use Rattle.opt_handles.specs.Handles.{KeepsHandles}
 use Rattle.opt_inside.specs.Outside.{AddsNoneOutside, KeepsOutside}
 use Rattle.opt_dce.specs.liveness.Plans.{SaysPins, GoesWith}
 
--- what goes, and all that is in it, is erased; the root stands for its tree without it; and nothing changes outside
--- the root
+-- what goes, and all that is in it, is erased; the root stands for its tree without it; nothing changes outside the
+-- root; and handles are kept
 pub record TakesOut {O B A : Type 0} (d : Dialect (in_program O B) A) (old new : Program O B) (op : Ptr Operation)
     (g : Gone by_handle) (t : ProgramTree O B) : Type 0 where
   pub stands : StandsFor new op (record { head = t.head; regions = thin d g t.regions })
   pub erased : (e : IRNode) → IsLiveNode old e → GoesWith old g e → IsErased new e
   pub outside : KeepsOutside old new op
   pub none_come : AddsNoneOutside old new op
+  pub handles : KeepsHandles old new op
 
 -- the operation stands for its tree without what is dead
 pub record MakesDce {O B A : Type 0} (d : Dialect (in_program O B) A) (old new : Program O B) (op : Ptr Operation)

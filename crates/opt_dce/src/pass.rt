@@ -9,6 +9,7 @@ ghost use Rattle.opt_dce.specs.liveness.Plans.{IsPlan};
 ghost use Rattle.opt_dce.specs.declared.liveness.plan.DeadPlan.{DeadPlan};
 ghost use Rattle.opt_dialect.specs.declared.status.IRStatus.TheVariants.{Unchanged};
 ghost use Rattle.opt_dialect.specs.declared.status.OptError.TheVariants.{Memory};
+ghost use Rattle.opt_handles.specs.Handles.{KeepsHandles};
 ghost use Rattle.opt_inside.specs.Edges.{HasLocalEdgesBelow};
 ghost use Rattle.opt_trees.specs.Dce.{TreeSurroundings, Gone, IsGoneExactly};
 
@@ -64,6 +65,8 @@ fn know_gone<D: OptDialect>(program: &Program<D::Operation, D::Block>, op: Ptr<O
 /// nothing uses but what is dead, with the operands that are forwarded to them.
 ///
 /// It answers whether anything was dead. Below the operation edges stay in their region, and lead from ends of blocks.
+/// What is dead is erased, with the blocks and regions in it: their handles are refused from then on, and so is each that
+/// was refused before.
 ///
 /// Source: Cytron and others, Efficiently computing static single assignment form, 1991; here as the least set, with
 /// block arguments and what operations hold.
@@ -82,6 +85,7 @@ pub fn dce<D: OptDialect, T: TypeTable>(
     ensures unchanged { result ≡ Ok Unchanged → ctx.new ≡ ctx.old }
     ensures error { IfErr result (λ error. error ≡ Memory) }
     ensures err { IfErr result (λ error. ctx.new ≡ ctx.old) }
+    ensures handles { KeepsHandles ctx.old.program ctx.new.program op }
     ensures numbers { ctx.new.program.counter ≡ ctx.old.program.counter }
     ensures types { ctx.new.types ≡ ctx.old.types }
 {

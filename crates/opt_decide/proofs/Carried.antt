@@ -18,6 +18,7 @@ use Rattle.ir_trees.specs.Stands.{in_program}
 use Rattle.ir_trees.proofs.HandleTests.{operation_yes, operation_no}
 use Rattle.opt_trees.specs.Dialect.{Dialect}
 use Rattle.opt_trees.specs.Simplify.{is_empty}
+use Rattle.opt_handles.proofs.Handles.{erased_none, erased_twice}
 use Rattle.opt_decide.specs.Phase.{IsUndecided, IsDecidedBranch, HasDecided}
 use Rattle.opt_decide.specs.Planned.{can_decide, edge_if, known_alone, picked_edge, decided_edge, AreDecisions}
 use Rattle.opt_decide.specs.Replaced.{in_place_of, along, DecidesBranch, LeadsAlikeForGood}
@@ -86,6 +87,7 @@ module _ {O B A : Type 0} (d : Dialect (in_program O B) A) (old : Program O B) w
     came = λ p v there. inl there;
     blocks = λ b. blocks (block_at old b);
     regions = λ r. refl;
+    erased = erased_none old;
   }
     where
       blocks : (o : Option (BlockView B)) → o ≡ option_map (λ (l : BlockView B). record l { operations = map (λ p. p) l.operations }) o
@@ -216,6 +218,7 @@ module _ {O B A : Type 0} (d : Dialect (in_program O B) A) (old mid new : Progra
     came = came_all;
     blocks = λ b. step.puts.blocks b ∙ ap (option_map (λ (l : BlockView B). record l { operations = map (in_place_of x.op q) l.operations })) (has.blocks b) ∙ both_lists (block_at old b);
     regions = λ r. step.puts.regions r ∙ has.regions r;
+    erased = erased_twice old mid new has.erased step.puts.erased;
   }
 
 -- where each handle leads to what it led to, what was carried out is so still
@@ -237,6 +240,7 @@ carried_alike d old mid new ds has alike = record {
   came = λ p v there. has.came p v (sym (alike.operations p) ∙ there);
   blocks = λ b. alike.blocks b ∙ has.blocks b;
   regions = λ r. alike.regions r ∙ has.regions r;
+  erased = erased_twice old mid new has.erased alike.erased;
 }
 
 -- what a decision tells of its branch

@@ -15,7 +15,8 @@ use Rattle.opt_trees.specs.Dialect.{Dialect}
 use Rattle.opt_trees.specs.Simplify.{is_bare, along_edge, decide_head, decide}
 use Rattle.opt_inside.proofs.Around.{HasLists}
 use Rattle.opt_decide.specs.Phase.{IsUndecided, HasDecided, maps_of}
-use Rattle.opt_decide.specs.Planned.{AreDecisions, known_alone}
+use Rattle.opt_inside.specs.Occurring.{IsBelowRoot}
+use Rattle.opt_decide.specs.Planned.{AreDecisions, IsDecidedBelow, known_alone, decided_edge}
 use Rattle.opt_decide.specs.declared.plan.Decision.{Decision}
 use Rattle.opt_decide.proofs.Carried.{found_or_not, among_or_not}
 use Rattle.opt_decide.proofs.NamesDecided.{heads_there, not_none, root_same, free_or_same}
@@ -104,6 +105,13 @@ module _ {O B A : Type 0} (d : Dialect (in_program O B) A) (old new : Program O 
       → (exchanged p ≡ p) ⊎ (operation_at old (exchanged p) ≡ None)
   free_or_kept p live =
       subst (λ z. (z ≡ p) ⊎ (operation_at old z ≡ None)) (sym (agrees p live)) (free_or_same d old new op ds are has p)
+
+  -- what isn't decided goes by the name that it had
+  pub kept_if : (p : Ptr Operation) → IsSome (operation_at old p) → (IsDecidedBelow d old op p → ⊥) → exchanged p ≡ p
+  kept_if p live none = agrees p live ∙ has.same p (λ x l e. none (
+    subst (IsBelowRoot old op) e (are.below x l),
+    subst (λ z. IsSome (decided_edge d old z)) e (subst IsSome (sym (are.sound x l)) refl),
+  ))
 
   pub root_kept : IsSome (operation_at old op) → exchanged op ≡ op
   root_kept live = agrees op live ∙ root_same d old new op ds are has

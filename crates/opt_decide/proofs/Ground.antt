@@ -18,7 +18,7 @@ use Rattle.opt_decide.specs.Planned.{AreDecisions}
 use Rattle.opt_decide.specs.declared.plan.Decision.{Decision}
 use Rattle.opt_decide.proofs.Carried.{none_decided}
 use Rattle.opt_decide.proofs.EdgesDecided.{local_still, fits_still}
-use Rattle.opt_decide.proofs.ExchangedNames.{exchanged, exchanged_twice, free_or_kept, root_kept, exchanged_apart, stands_exchanged}
+use Rattle.opt_decide.proofs.ExchangedNames.{exchanged, exchanged_twice, free_or_kept, kept_if, root_kept, exchanged_apart, stands_exchanged}
 use Rattle.opt_decide.proofs.InsideDecided.{none_came, none_outside}
 use Rattle.opt_decide.proofs.NamesDecided.{outside_kept}
 use Rattle.opt_decide.proofs.NoneDecided.{none_decided_then, some_decided_then}
@@ -69,6 +69,7 @@ module _ {O B A : Type 0} (d : Dialect (in_program O B) A) (old new : Program O 
       says = says_known d old ground.values op ground.told;
       names = maps_of (exchanged d old new op ds are has);
       operations = free_or_kept d old new op ds are has;
+      kept = kept_if d old new op ds are has;
       twice = exchanged_twice d old new op ds are has;
       root = root_kept d old new op ds are has ground.root;
       blocks = λ b. refl;

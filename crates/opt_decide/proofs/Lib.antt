@@ -16,3 +16,4 @@ pub mod SaidAround
 pub mod Swapped
 pub mod TreesDecided
 pub mod TurnedHeads
+pub mod HandlesDecided

@@ -1,5 +1,6 @@
 -- Decisions that are carried out one after the other.
 use Rattle.std.specs.Prelude.{◌≡◌, ◌≢◌, ◌↔◌, ◌⊎◌, ℕ, List, [], map, Some, None, IsSome, option_map, take}
+use Rattle.ir_program.specs.Edits.{KeepsErased}
 use Rattle.ir_program.specs.Erased.{IsGone}
 use Rattle.ir_program.specs.Lists.{StandsInside, IsLiveNode}
 use Rattle.ir_program.specs.Program.{Program, OperationView, BlockView, operation_at, block_at, region_at}
@@ -20,7 +21,7 @@ use Rattle.opt_dialect.specs.declared.status.IRStatus.{IRStatus}
 use Rattle.opt_dialect.specs.declared.status.IRStatus.TheVariants.{Unchanged}
 use Rattle.opt_inside.specs.Around.{SaysAround}
 use Rattle.opt_inside.specs.Outside.{KeepsOutside}
-use Rattle.opt_decide.specs.Planned.{AreDecisions, AreSomeDecisions, known_alone}
+use Rattle.opt_decide.specs.Planned.{AreDecisions, AreSomeDecisions, IsDecidedBelow, known_alone}
 use Rattle.opt_decide.specs.Replaced.{along}
 use Rattle.opt_decide.specs.declared.plan.Decision.{Decision}
 
@@ -38,7 +39,8 @@ pub record IsDecidedBranch {O B A : Type 0} (d : Dialect (in_program O B) A) (ol
   pub made : operation_at new q ≡ Some (along d view x.edge payload)
   pub gone : IsGone new (OperationNode x.op)
 
--- the branches of these decisions are unconditional ones, under names of their own, where they stood; all else is as it was
+-- the branches of these decisions are unconditional ones, under names of their own, where they stood; all else is as it
+-- was, and what was erased before stays so
 pub record HasDecided {O B A : Type 0} (d : Dialect (in_program O B) A) (old new : Program O B) (ds : List Decision) : Type 0 where
   pub names : Ptr Operation → Ptr Operation
   pub same : (p : Ptr Operation) → IsUndecided ds p → names p ≡ p
@@ -49,6 +51,7 @@ pub record HasDecided {O B A : Type 0} (d : Dialect (in_program O B) A) (old new
       → (operation_at old p ≡ Some v) ⊎ ((x : Decision) × Lists ds x × (names x.op ≡ p))
   pub blocks : (b : Ptr BasicBlock) → block_at new b ≡ option_map (λ (l : BlockView B). record l { operations = map names l.operations }) (block_at old b)
   pub regions : (r : Ptr Region) → region_at new r ≡ region_at old r
+  pub erased : KeepsErased old new
 
 -- some of the decisions were carried out, the first of the list
 abbrev pub HasDecidedSome : {O B A : Type 0} → Dialect (in_program O B) A → Program O B → Program O B → List Decision → Type 0
@@ -86,8 +89,8 @@ BringsNoneOutside {O} old new op = (p : Ptr Operation) (v : OperationView O)
     → (StandsInside new (OperationNode op) (OperationNode p) → ⊥) → operation_at new p ≡ Some v
     → (StandsInside old (OperationNode op) (OperationNode p) → ⊥) × (operation_at old p ≡ Some v)
 
--- the branches that their operands decide are unconditional ones: blocks and values keep their handles, as the operation
--- does, and each other operation keeps its own or changes places with one that led nowhere
+-- the branches that their operands decide are unconditional ones. Blocks and values keep their handles, and so does each
+-- operation but a branch below the root that is decided: that one may change places with one that led nowhere
 pub record DecidesBranches {O B A : Type 0} (d : Dialect (in_program O B) A) (old new : Program O B)
     (op : Ptr Operation) (t : ProgramTree O B) : Type 0 where
   pub around : TreeSurroundings by_handle A
@@ -95,6 +98,7 @@ pub record DecidesBranches {O B A : Type 0} (d : Dialect (in_program O B) A) (ol
   pub names : Maps by_handle by_handle
   pub operations : (p : Ptr Operation) → IsSome (operation_at old p)
       → (names.operation p ≡ p) ⊎ (operation_at old (names.operation p) ≡ None)
+  pub kept : (p : Ptr Operation) → IsSome (operation_at old p) → (IsDecidedBelow d old op p → ⊥) → names.operation p ≡ p
   pub twice : (p : Ptr Operation) → names.operation (names.operation p) ≡ p
   pub root : names.operation op ≡ op
   pub blocks : (b : Ptr BasicBlock) → names.block b ≡ b

@@ -1,5 +1,5 @@
 -- Which branches are decided, by what is known of values by their definers alone.
-use Rattle.std.specs.Prelude.{◌≡◌, ℕ, zero, suc, Bool, false, not, ◌&&◌, cond, List, [], ◌∷◌, map, Option, Some, None, is_some, option_map, slice_get, if◌then◌else◌}
+use Rattle.std.specs.Prelude.{◌≡◌, ℕ, zero, suc, Bool, false, not, ◌&&◌, cond, List, [], ◌∷◌, map, Option, Some, None, IsSome, is_some, option_map, slice_get, if◌then◌else◌}
 use Rattle.ir_program.specs.Program.{Program, TypedValue, OperationView, operation_at}
 use Rattle.ir_program.specs.Rows.{operands_at}
 use Rattle.ir_program.specs.Replacing.{same_value}
@@ -57,6 +57,10 @@ module _ {O B A : Type 0} (d : Dialect (in_program O B) A) where
     -- the edge along which an operation goes on, where the dialect has an unconditional branch to say so
     abbrev pub decided_edge : Ptr Operation → Option ℕ
     decided_edge p = if is_some d.plain then picked_edge p else None
+
+    -- the operation is a branch below the root that is decided
+    abbrev pub IsDecidedBelow : Ptr Operation → Ptr Operation → Type 0
+    IsDecidedBelow op p = IsBelowRoot c op p × IsSome (decided_edge p)
 
     -- these are decisions below the root, each operation once
     pub record AreSomeDecisions (op : Ptr Operation) (ds : List Decision) : Type 0 where

@@ -12,7 +12,10 @@ use opt_dialect::OptDialect;
 use std::alloc::{AllocError, Global};
 
 /// The types of the results of an operation.
-fn types_of_results<O, B>(
+///
+/// # Errors
+/// There may be no memory.
+pub fn types_of_results<O, B>(
     alloc: Global,
     program: &Program<O, B>,
     op: Ptr<Operation>,

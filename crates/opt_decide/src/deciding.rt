@@ -4,6 +4,7 @@ ghost use Rattle.ir_program.specs.Program.{operation_at};
 ghost use Rattle.ir_trees.specs.Stands.{ProgramTree, StandsFor};
 ghost use Rattle.opt_dialect.specs.declared.status.IRStatus.TheVariants.{Unchanged};
 ghost use Rattle.opt_dialect.specs.declared.status.OptError.TheVariants.{Memory};
+ghost use Rattle.opt_handles.specs.Handles.{KeepsHandles};
 ghost use Rattle.opt_inside.specs.Edges.{FitsEdgesBelow, HasLocalEdgesBelow};
 ghost use Rattle.opt_decide.specs.Phase.{CarriesOut, CarriesOutPart, DecidesBranches, HasDecided, HasDecidedSome, HasNoneDecided};
 ghost use Rattle.opt_decide.specs.Planned.{AreDecisions};
@@ -43,8 +44,8 @@ fn carry_out<D: OptDialect, T: TypeTable>(
 
 /// Makes the branches below an operation that their operands decide unconditional: branches that aren't unconditional,
 /// without results and regions, whose operands pick an edge by what is known of each by its definer alone. Each becomes
-/// a new operation in its place, which forwards what the old one forwarded along that edge. It answers whether there
-/// were any.
+/// a new operation in its place, which forwards what the old one forwarded along that edge, and is erased; all else keeps
+/// its handle. It answers whether there were any.
 ///
 /// # Errors
 /// There may be no memory. Some of the branches are decided then, each whole.
@@ -65,6 +66,7 @@ pub fn decide_branches<D: OptDialect, T: TypeTable>(
     ensures carried { IfOk result (λ status. CarriesOut D.meaning ctx.old.program ctx.new.program op status) }
     ensures unchanged { result ≡ Ok Unchanged → ctx.new ≡ ctx.old }
     ensures error { IfErr result (λ e. e ≡ Memory) }
+    ensures handles { KeepsHandles ctx.old.program ctx.new.program op }
     ensures numbers { ctx.new.program.counter ≡ ctx.old.program.counter }
     ensures types { ctx.new.types ≡ ctx.old.types }
 {

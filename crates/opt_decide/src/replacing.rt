@@ -91,7 +91,7 @@ fn put_in_place<O: Drop, B: Drop, T: TypeTable>(
 ///
 /// # Errors
 /// There may be no memory. Each handle leads to what it led to then.
-pub(crate) fn decide_branch<D: OptDialect, T: TypeTable>(
+pub fn decide_branch<D: OptDialect, T: TypeTable>(
     alloc: Global,
     ctx: &mut TypedProgram<D::Operation, D::Block, T>,
     decision: Decision,

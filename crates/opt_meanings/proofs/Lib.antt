@@ -6,6 +6,7 @@ pub mod SimplifyMeant
 pub mod Permuted
 pub mod RenamedSame
 pub mod SameSccp
+pub mod SettledSccp
 pub mod SameDce
 pub mod SimplifyShared
 pub mod Worded

@@ -1,13 +1,14 @@
 -- What sccp makes of what a tree means is the meaning of what it makes of the tree.
 use Rattle.std.proofs.Common.{◌≡◌, ⊎_elim, inl, inr, List, [], ◌∷◌, Option, Some, None, refl, sym, ap, ◌∙◌, subst}
-use Rattle.std.specs.Prelude.{map, option_map}
+use Rattle.std.specs.Prelude.{map, option_map, slice_get}
 use Rattle.ir_trees.specs.Names.{Names, Contents}
 use Rattle.ir_trees.specs.Renames.{rename_defined, names_of}
 use Rattle.ir_trees.specs.Trees.{Defined, Head, Label, Sort, Operations, Tree, end, operation, block, region, Root}
 use Rattle.opt_trees.specs.Occurrences.{Has}
+use Rattle.opt_trees.specs.Dce.{TreeSurroundings}
 use Rattle.opt_trees.specs.Dialect.{Dialect}
 use Rattle.opt_trees.specs.Facts.{Facts}
-use Rattle.opt_trees.specs.Sccp.{Old, New, fresh, IsResult, IsArgument, Gets, AreMadeConstants, IsSccp, used_as}
+use Rattle.opt_trees.specs.Sccp.{Old, New, fresh, IsResult, IsArgument, IsUsed, Gets, AreMadeConstants, IsSccp, used_as}
 use Rattle.opt_trees.specs.Sccp.{constant_before, put_one, put_results, put_arguments, old_head, old_label, put, put_root}
 use Rattle.opt_trees.proofs.Lists.{map-map, from_some}
 use Rattle.opt_meanings.specs.Meanings.{Meanings, IsMeant, mean_defined, mean_head, mean_label, mean, mean_root}
@@ -140,39 +141,59 @@ module _ {N : Names} {S R : Contents} {A : Type 0} (m : Meanings S R) (d : Diale
               (subst (λ x. Has v (names_of x.label.arguments)) (sym q.is) p.argument);
         }
 
-    -- a value gets the constant in what the tree means that it gets in the tree
-    pub gets_forth : (v : N.value) (a : A) → Gets d t k v a → Gets e (mean_root m t) k v a
-    gets_forth v a p = record {
-      known = p.known;
-      maker = m.operation p.maker;
-      made_by = meant.constant a ∙ ap (option_map m.operation) p.made_by;
-      place = ⊎_elim (λ x. inl (result_forth v x)) (λ x. inr (argument_forth v x)) p.place;
-    }
+    module _ (w : TreeSurroundings N A) where
+      -- a value that is used is used in what the tree means
+      used_forth : (v : N.value) → IsUsed w t v → IsUsed w (mean_root m t) v
+      used_forth v p = ⊎_elim
+          (λ b. inl (mean_occurrence m b.0, b.1, record { stands = operation_there m t b.0 b.2.stands; operand = b.2.operand }))
+          (λ q. inr q)
+          p
 
-    -- and the other way round
-    pub gets_back : (v : N.value) (a : A) → Gets e (mean_root m t) k v a → Gets d t k v a
-    gets_back v a p =
-        let c = from_some m.operation (d.constant a) p.maker (sym (meant.constant a) ∙ p.made_by) in
-        record {
-          known = p.known;
-          maker = c.it;
-          made_by = c.some;
-          place = ⊎_elim (λ x. inl (result_back v x)) (λ x. inr (argument_back v x)) p.place;
-        }
+      -- and the other way round
+      used_back : (v : N.value) → IsUsed w (mean_root m t) v → IsUsed w t v
+      used_back v p = ⊎_elim
+          (λ b.
+          let q = operation_from m t b.0 b.2.stands in
+          inl (q.it, b.1, record { stands = q.stands; operand = ap (λ x. slice_get x.head.operands b.1) q.is ∙ b.2.operand }))
+          (λ q. inr q)
+          p
 
-    -- the same constants are made
-    pub made_meant : (made : N.value → Option A) → AreMadeConstants d t k made → AreMadeConstants e (mean_root m t) k made
-    made_meant made p = record {
-      gets = λ v a h. gets_forth v a (p.gets v a h);
-      all = λ v a h. p.all v a (gets_back v a h);
-    }
+      -- a value gets the constant in what the tree means that it gets in the tree
+      pub gets_forth : (v : N.value) (a : A) → Gets d w t k v a → Gets e w (mean_root m t) k v a
+      gets_forth v a p = record {
+        known = p.known;
+        maker = m.operation p.maker;
+        made_by = meant.constant a ∙ ap (option_map m.operation) p.made_by;
+        place = ⊎_elim (λ x. inl (result_forth v x)) (λ x. inr (argument_forth v x)) p.place;
+        used = used_forth v p.used;
+      }
+
+      -- and the other way round
+      pub gets_back : (v : N.value) (a : A) → Gets e w (mean_root m t) k v a → Gets d w t k v a
+      gets_back v a p =
+          let c = from_some m.operation (d.constant a) p.maker (sym (meant.constant a) ∙ p.made_by) in
+          record {
+            known = p.known;
+            maker = c.it;
+            made_by = c.some;
+            place = ⊎_elim (λ x. inl (result_back v x)) (λ x. inr (argument_back v x)) p.place;
+            used = used_back v p.used;
+          }
+
+      -- the same constants are made
+      pub made_meant : (made : N.value → Option A) → AreMadeConstants d w t k made → AreMadeConstants e w (mean_root m t) k made
+      made_meant made p = record {
+        gets = λ v a h. gets_forth v a (p.gets v a h);
+        all = λ v a h. p.all v a (gets_back v a h);
+      }
 
   -- what sccp makes of what the tree means is the meaning of what it makes of the tree
-  pub sccp_meant : (t : Root N S) (after : Root (fresh N) S) → IsSccp d t after → IsSccp e (mean_root m t) (mean_root m after)
-  sccp_meant t after x = record {
+  pub sccp_meant : (w : TreeSurroundings N A) (t : Root N S) (after : Root (fresh N) S) → IsSccp d w t after →
+      IsSccp e w (mean_root m t) (mean_root m after)
+  sccp_meant w t after x = record {
     facts = x.facts;
     best = best_meant m d e meant t x.facts x.best;
     made = x.made;
-    is_made = made_meant t x.facts x.made x.is_made;
+    is_made = made_meant t x.facts w x.made x.is_made;
     is = ap (mean_root m) x.is ∙ sym (root_meant x.made t);
   }

@@ -1,5 +1,5 @@
 -- What holds of a dialect and what is around a tree holds of them in other words.
-use Rattle.std.proofs.Common.{◌≡◌, false, List, [], ◌∷◌, map, Option, Some, None, option_map, refl, sym, ap, subst}
+use Rattle.std.proofs.Common.{◌≡◌, List, [], ◌∷◌, map, Option, Some, None, option_map, refl, sym, ap, subst}
 use Rattle.ir_trees.specs.Names.{Names, Contents}
 use Rattle.ir_trees.specs.Trees.{Root}
 use Rattle.opt_trees.specs.Dce.{TreeSurroundings, IsDce}
@@ -71,9 +71,9 @@ module _ {N : Names} {S : Contents} where
 
   -- what sccp, dce and simplify make of a tree they make of it in other words
   module _ {A B : Type 0} (w : Bijection A B) (d : Dialect S A) where
-    pub sccp_worded : (t : Root N S) (after : Root (fresh N) S) → IsSccp d t after → IsSccp (worded w d) t after
-    sccp_worded t after x =
-        in_other_words (λ X e b. IsSccp e t after) w d (record { alone = λ v. None; is_pinned = λ v. false }) x
+    pub sccp_worded : (a : TreeSurroundings N A) (t : Root N S) (after : Root (fresh N) S) → IsSccp d a t after →
+        IsSccp (worded w d) (worded_around w a) t after
+    sccp_worded a t after x = in_other_words (λ X e b. IsSccp e b t after) w d a x
 
     pub dce_worded : (a : TreeSurroundings N A) (t after : Root N S) → IsDce d a t after →
         IsDce (worded w d) (worded_around w a) t after

@@ -4,7 +4,7 @@ use Rattle.ir_trees.specs.Names.{Names, Contents}
 use Rattle.ir_trees.specs.Renames.{HaveTests, IsSameUpToNames}
 use Rattle.ir_trees.specs.Trees.{Root}
 use Rattle.opt_trees.specs.Dce.{TreeSurroundings, IsDce}
-use Rattle.opt_trees.specs.Dialect.{Dialect}
+use Rattle.opt_trees.specs.Dialect.{Dialect, Lawful}
 use Rattle.opt_trees.specs.Occurrences.{Has, OperationsApart, Occurrence, occurrences_of, defined_in}
 use Rattle.opt_trees.specs.Sccp.{fresh, IsSccp}
 use Rattle.opt_trees.specs.Simplify.{IsOrderly, IsSimplify}
@@ -26,8 +26,8 @@ KnowAlike {N} {S} d w z t u = (i j : ℕ) (o p : Occurrence N S) (v x : N.value)
 module _ (N : Names) (S R : Contents) (A : Type 0) where
   abbrev pub SccpMeans : Type 0
   SccpMeans = (m : Meanings S R) (d : Dialect S A) (e : Dialect R A) → IsMeant m d e →
-      (t : Root N S) (after : Root (fresh N) S) → IsSccp d t after →
-      IsSccp e (mean_root m t) (mean_root m after)
+      (w : TreeSurroundings N A) (t : Root N S) (after : Root (fresh N) S) → IsSccp d w t after →
+      IsSccp e w (mean_root m t) (mean_root m after)
 
   abbrev pub DceMeans : Type 0
   DceMeans = (m : Meanings S R) (d : Dialect S A) (e : Dialect R A) → IsMeant m d e →
@@ -42,8 +42,8 @@ module _ (N : Names) (S R : Contents) (A : Type 0) where
 -- the same is made of a tree whatever words attributes are in
 module _ (N : Names) (S : Contents) (A B : Type 0) where
   abbrev pub SccpWorded : Type 0
-  SccpWorded = (w : Bijection A B) (d : Dialect S A) (t : Root N S) (after : Root (fresh N) S) → IsSccp d t after →
-      IsSccp (worded w d) t after
+  SccpWorded = (w : Bijection A B) (d : Dialect S A) (a : TreeSurroundings N A) (t : Root N S)
+      (after : Root (fresh N) S) → IsSccp d a t after → IsSccp (worded w d) (worded_around w a) t after
 
   abbrev pub DceWorded : Type 0
   DceWorded = (w : Bijection A B) (d : Dialect S A) (a : TreeSurroundings N A) (t after : Root N S) → IsDce d a t after →
@@ -56,8 +56,14 @@ module _ (N : Names) (S : Contents) (A B : Type 0) where
 -- of trees that are the same up to names, which can be told apart, what is the same up to names is made
 module _ (N : Names) (S : Contents) (A : Type 0) where
   abbrev pub SameSccps : Type 0
-  SameSccps = (d : Dialect S A) → HaveTests N → (t u : Root N S) → IsSameUpToNames t u →
-      (a b : Root (fresh N) S) → IsSccp d t a → IsSccp d u b → IsSameUpToNames a b
+  SameSccps = (d : Dialect S A) → HaveTests N → (t u : Root N S) → IsSameUpToNames t u → (w z : TreeSurroundings N A) →
+      NonePinned w t → NonePinned z u → (a b : Root (fresh N) S) → IsSccp d w t a → IsSccp d z u b → IsSameUpToNames a b
+
+  -- what a second sccp makes of what the first made, under any names, is the same up to names
+  abbrev pub SecondSccpsSettle : Type 0
+  SecondSccpsSettle = (d : Dialect S A) → Lawful d → HaveTests N → (w z : TreeSurroundings N A) (t u : Root N S)
+      (put again : Root (fresh N) S) → IsSccp d w t put → IsSameUpToNames put u → NonePinned z u →
+      IsSccp d z u again → IsSameUpToNames u again
 
   abbrev pub SameDces : Type 0
   SameDces = (d : Dialect S A) → HaveTests N → (t u : Root N S) → IsSameUpToNames t u → (w z : TreeSurroundings N A) →

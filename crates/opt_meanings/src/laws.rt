@@ -1,7 +1,7 @@
 //! Laws of the three optimisations on trees that say the same in other words.
 ghost use Rattle.ir_trees.specs.Renames.{holding, named};
 ghost use Rattle.opt_meanings.specs.Laws.{DceMeans, DceWorded, SameDces, SameSccps, SameSimplifies, SccpMeans};
-ghost use Rattle.opt_meanings.specs.Laws.{SccpWorded, SimplifyMeans, SimplifyWorded};
+ghost use Rattle.opt_meanings.specs.Laws.{SccpWorded, SecondSccpsSettle, SimplifyMeans, SimplifyWorded};
 
 /// What is made of what a tree means is the meaning of what is made of the tree: the optimisations look at nothing that
 /// the dialect doesn't look at. `SimplifyMeans` asks distinct names of operations.
@@ -24,4 +24,10 @@ pub fn same_trees_are_made<O, B, V, C, D, T, A>()
     ensures sccp { SameSccps (named O B V) (holding C D T) A }
     ensures dce { SameDces (named O B V) (holding C D T) A }
     ensures simplify { SameSimplifies (named O B V) (holding C D T) A }
+{}
+
+/// A second constant propagation straight after another, whatever names what the first made has got, makes of it what
+/// is the same up to names, where nothing is named from outside and names can be told apart.
+pub fn second_constants_settle<O, B, V, C, D, T, A>()
+    ensures { SecondSccpsSettle (named O B V) (holding C D T) A }
 {}

@@ -13,6 +13,7 @@ use Rattle.opt_dialect.specs.declared.status.IRStatus.{IRStatus}
 use Rattle.opt_dialect.specs.declared.status.IRStatus.TheVariants.{Unchanged}
 use Rattle.opt_dialect.specs.declared.status.OptError.{OptError}
 use Rattle.opt_dialect.specs.declared.status.OptError.TheVariants.{Memory, UndeterminedOperand}
+use Rattle.opt_handles.specs.Handles.{KeepsHandles}
 use Rattle.opt_inside.specs.Edges.{HasLocalEdgesBelow}
 use Rattle.opt_inside.specs.Occurring.{OfItsTree}
 use Rattle.opt_sccp.specs.Made.{IsShortage}
@@ -46,11 +47,11 @@ module _ {O B T A : Type 0} (d : Dialect (in_program O B) A) (old new : ContextV
 
   pub dead_outcome : (r : Answer)
       → IfOk r (λ status. OfItsTree old.program op (λ t. IsOutcome d old.program new.program op t status))
-      → (r ≡ Ok Unchanged → new ≡ old) → IfErr r (λ e. e ≡ Memory) → IfErr r (λ e. new ≡ old) → new.types ≡ old.types
-      → TakesOutDead d old op r new
-  dead_outcome (Ok status) made unchanged memory same types =
-      taken_out made (record { unchanged = λ e. unchanged (ap Ok e); types = types })
-  dead_outcome (Err e) made unchanged memory same types =
+      → (r ≡ Ok Unchanged → new ≡ old) → IfErr r (λ e. e ≡ Memory) → IfErr r (λ e. new ≡ old)
+      → KeepsHandles old.program new.program op → new.types ≡ old.types → TakesOutDead d old op r new
+  dead_outcome (Ok status) made unchanged memory same handles types =
+      taken_out made handles (record { unchanged = λ e. unchanged (ap Ok e); types = types })
+  dead_outcome (Err e) made unchanged memory same handles types =
       subst (λ z. TakesOutDead d old op (Err z) new) (sym memory)
       (subst (λ z. TakesOutDead d old op (Err Memory) z) (sym same) none_taken)
 
@@ -76,17 +77,17 @@ module _ {O B T A : Type 0} (d : Dialect (in_program O B) A) (old new : ContextV
       → OnOk r (OfItsTree old.program op (SimplifiesTree d old.program new.program op))
       → IfOk r (λ status. (status ≡ Unchanged) ↔ HasNothingToDo d old.program op)
       → (r ≡ Ok Unchanged → new ≡ old) → IfErr r (StopsAt d old.program new.program op)
-      → new.types ≡ old.types → SimplifiesFlow d old op r new
-  flow_outcome (Ok status) steps tree exact unchanged stops types =
-      simplified steps tree exact (record { unchanged = λ e. unchanged (ap Ok e); types = types })
-  flow_outcome (Err e) steps tree exact unchanged stops types = stopped stops types
+      → KeepsHandles old.program new.program op → new.types ≡ old.types → SimplifiesFlow d old op r new
+  flow_outcome (Ok status) steps tree exact unchanged stops handles types =
+      simplified steps tree exact handles (record { unchanged = λ e. unchanged (ap Ok e); types = types })
+  flow_outcome (Err e) steps tree exact unchanged stops handles types = stopped stops handles types
 
 module _ {O B T A : Type 0} (d : Dialect (in_program O B) A) {old : ContextView O B T} {op : Ptr Operation}
     (was : IsSound old.program) (tree : (t : ProgramTree O B) × StandsFor old.program op t)
     (live : IsSome (operation_at old.program op)) where
   pub rest_of_dead : {r : Result IRStatus OptError} {new : ContextView O B T} → IsSound new.program
       → TakesOutDead d old op r new → LeavesOutside old.program new.program op
-  rest_of_dead is (taken_out made told) = dead_left d _ _ op was is tree.0 tree.1 (made tree.0 tree.1).made
+  rest_of_dead is (taken_out made handles told) = dead_left d _ _ op was is tree.0 tree.1 (made tree.0 tree.1).made
   rest_of_dead is none_taken = left_same _ op was live
 
   pub rest_of_constants : {r : Result IRStatus OptError} {new : ContextView O B T} → IsSound new.program
@@ -97,5 +98,5 @@ module _ {O B T A : Type 0} (d : Dialect (in_program O B) A) {old : ContextView 
 
   pub rest_of_flow : {r : Result IRStatus OptError} {new : ContextView O B T} → IsSound new.program
       → SimplifiesFlow d old op r new → LeavesOutside old.program new.program op
-  rest_of_flow is (simplified steps of_tree exact told) = flow_left d _ _ op was is tree.0 tree.1 (of_tree tree.0 tree.1)
-  rest_of_flow is (stopped stops types) = stopped_left d _ op _ was is tree.0 tree.1 _ stops
+  rest_of_flow is (simplified steps of_tree exact handles told) = flow_left d _ _ op was is tree.0 tree.1 (of_tree tree.0 tree.1)
+  rest_of_flow is (stopped stops handles types) = stopped_left d _ op _ was is tree.0 tree.1 _ stops

@@ -29,13 +29,13 @@ IsTold {O} {B} {T} Makes = (c d : ContextView O B T) (x : Ptr Operation) (status
 
 module _ {O B T A : Type 0} (d : Dialect (in_program O B) A) where
   pub dead_told : IsTold {T = T} (TakesOutDead d)
-  dead_told c now x status (taken_out _ told) = told.unchanged
+  dead_told c now x status (taken_out _ _ told) = told.unchanged
 
   pub constants_told : IsTold {T = T} (PutsConstantsIn d)
   constants_told c now x status (put_in _ told) = told.unchanged
 
   pub flow_told : IsTold {T = T} (SimplifiesFlow d)
-  flow_told c now x status (simplified _ _ _ told) = told.unchanged
+  flow_told c now x status (simplified _ _ _ _ told) = told.unchanged
 
 module _ {O B T E D K F A : Type 0} {Accepts : ContextView O B T → Ptr Operation → Type 0} {ends : O → Bool}
     {Makes : ContextView O B T → Ptr Operation → Result IRStatus OptError → ContextView O B T → Type 0} where

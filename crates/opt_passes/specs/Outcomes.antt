@@ -11,6 +11,7 @@ use Rattle.opt_dialect.specs.declared.status.IRStatus.{IRStatus}
 use Rattle.opt_dialect.specs.declared.status.IRStatus.TheVariants.{Unchanged}
 use Rattle.opt_dialect.specs.declared.status.OptError.{OptError}
 use Rattle.opt_dialect.specs.declared.status.OptError.TheVariants.{Memory, UndeterminedOperand}
+use Rattle.opt_handles.specs.Handles.{KeepsHandles}
 use Rattle.opt_inside.specs.Occurring.{OfItsTree}
 use Rattle.opt_sccp.specs.Made.{IsShortage}
 use Rattle.opt_sccp.specs.Sccp.{IsPartlyPropagated, IsPropagated, LacksIn}
@@ -24,10 +25,10 @@ module _ {O B T A : Type 0} (d : Dialect (in_program O B) A) (old : ContextView 
 
   -- dead code elimination
   pub data TakesOutDead : Result IRStatus OptError → ContextView O B T → Type 0 where
-    -- what is dead is gone
+    -- what is dead is erased, and other handles are kept
     taken_out : {status : IRStatus} {new : ContextView O B T}
         → OfItsTree old.program op (λ t. IsOutcome d old.program new.program op t status)
-        → IsToldBy status new → TakesOutDead (Ok status) new
+        → KeepsHandles old.program new.program op → IsToldBy status new → TakesOutDead (Ok status) new
     -- there is no memory, and nothing is changed
     none_taken : TakesOutDead (Err Memory) old
 
@@ -48,7 +49,7 @@ module _ {O B T A : Type 0} (d : Dialect (in_program O B) A) (old : ContextView 
     simplified : {status : IRStatus} {new : ContextView O B T} → Simplifies d old.program new.program op
         → OfItsTree old.program op (SimplifiesTree d old.program new.program op)
         → (status ≡ Unchanged) ↔ HasNothingToDo d old.program op
-        → IsToldBy status new → SimplifiesFlow (Ok status) new
-    -- a phase stops
+        → KeepsHandles old.program new.program op → IsToldBy status new → SimplifiesFlow (Ok status) new
+    -- a phase stops; handles are kept all the same
     stopped : {error : OptError} {new : ContextView O B T} → StopsAt d old.program new.program op error
-        → new.types ≡ old.types → SimplifiesFlow (Err error) new
+        → KeepsHandles old.program new.program op → new.types ≡ old.types → SimplifiesFlow (Err error) new

@@ -1,10 +1,10 @@
 -- What is decided by facts that are kept by numbers.
-use Rattle.std.proofs.Common.{◌≡◌, ◌≢◌, inl, inr, ⊎_elim, ℕ, zero, suc, ◌+◌, ◌<◌, Bool, true, cond, List, [], ◌∷◌, map, Some, IsSome, slice_get, refl, sym, ap, ◌∙◌, subst, arith}
+use Rattle.std.proofs.Common.{◌≡◌, ◌≢◌, inl, inr, ⊎_elim, ℕ, zero, suc, ◌+◌, ◌<◌, Bool, true, cond, List, [], ◌∷◌, map, Some, None, IsSome, slice_get, refl, sym, ap, ◌∙◌, subst, arith}
 use Rattle.std.specs.Prelude.{nat_lt}
 use Rattle.std.proofs.lemmas.Option.{slice_get-map}
 use Rattle.ir_base.specs.declared.types.TypeHandle.{TypeHandle}
 use Rattle.ir_context.specs.Known.{IsKnownIn, HasKnownTypes}
-use Rattle.ir_program.specs.Program.{Program, TypedValue, operation_at, block_at, type_at, value_in, type_in}
+use Rattle.ir_program.specs.Program.{Program, TypedValue, operation_at, block_at, type_at, value_in, type_in, IsLiveValue}
 use Rattle.ir_program.specs.Definers.{values_at}
 use Rattle.ir_program.specs.declared.handles.Ptr.{Ptr}
 use Rattle.ir_program.specs.declared.handles.Operation.{Operation}
@@ -15,21 +15,24 @@ use Rattle.ir_program.proofs.used.Renaming.{value-test}
 use Rattle.ir_trees.specs.Searched.{Lists}
 use Rattle.ir_trees.specs.Stands.{by_handle, in_program, ProgramTree, ProgramHead, StandsFor, defined_by}
 use Rattle.ir_trees.proofs.ListEdited.{AreOrderly}
+use Rattle.opt_inside.specs.Around.{CanTellTaken}
 use Rattle.opt_inside.specs.facts.ByNumber.{AreFactsBy, AreBestFacts}
 use Rattle.opt_inside.specs.Numbered.{Numbers, NumbersInside}
-use Rattle.opt_inside.specs.Occurring.{IsDefinedBelow}
+use Rattle.opt_inside.specs.Occurring.{IsBelowRoot, IsDefinedBelow}
+use Rattle.opt_inside.proofs.Told.{Told, look, same_handle}
 use Rattle.opt_rows.specs.declared.known.Known.{Known}
 use Rattle.opt_rows.specs.declared.known.Known.TheVariants.{One}
+use Rattle.opt_trees.specs.Dce.{TreeSurroundings}
 use Rattle.opt_trees.specs.Dialect.{Dialect, Lawful}
 use Rattle.opt_trees.specs.Facts.{Facts}
 use Rattle.opt_trees.specs.Occurrences.{Has, types_of}
 use Rattle.opt_trees.specs.Sccp.{AreMadeConstants}
 use Rattle.opt_sccp.specs.declared.putting.Made.{Made}
 use Rattle.opt_sccp.specs.Made.{made_of, IsPutList}
-use Rattle.opt_sccp.specs.Sccp.{IsDecided, LacksIn}
+use Rattle.opt_sccp.specs.Sccp.{IsDecided, LacksIn, PinsTaken}
 use Rattle.opt_sccp.specs.Placed.{DefinerIsPlaced}
 use Rattle.opt_sccp.specs.Wanted.{AreMade, LacksAt}
-use Rattle.opt_sccp.proofs.Definitions.{AreDefined, results_are, result_at, block_around, result_or_argument}
+use Rattle.opt_sccp.proofs.Definitions.{AreDefined, results_are, result_at, argument_at, type_there, block_around, result_or_argument}
 use Rattle.opt_sccp.proofs.KnownTypes.{constants_typed}
 use Rattle.opt_sccp.proofs.PlacedLists.{has_index, index_has}
 use Rattle.opt_sccp.proofs.Options.{is_something}
@@ -74,6 +77,17 @@ module _ {O B A : Type 0} (d : Dialect (in_program O B) A) (c : Program O B) (op
   is_below : (v : Value) → Has v n.values → IsDefinedBelow c op v
   is_below v h = (numbers.values v).0 (has_index n.values v h)
 
+  -- it is told what is below the root
+  told_below : (p : Ptr Operation) → Told (IsBelowRoot c op p)
+  told_below p = ⊎_elim
+      (λ l. inl ((numbers.operations p).0 l))
+      (λ no. inr (λ b. no ((numbers.operations p).1 b)))
+      (look same_handle n.operations p)
+
+  -- what is around the root, where it is told what is taken outside it
+  abbrev around_root : CanTellTaken c op → TreeSurroundings by_handle A
+  around_root told = record { alone = λ v. None; is_pinned = told.0 }
+
   -- numbers of the values of one definer are in its order
   in_a_row : (e : DefiningEntity) (v : Value) → IsDefinedBelow c op v → v.definer ≡ e → (j : ℕ) × ((i : ℕ) (w : Value) → value_in (values_at c e) i ≡ Some w → slice_get n.values (j + i) ≡ Some w)
   in_a_row e v below definer = ⊎_elim
@@ -100,12 +114,12 @@ module _ {O B A : Type 0} (d : Dialect (in_program O B) A) (c : Program O B) (op
     one_each : (v : Value) (a : A) → Has (entry v a) made → made_of made v ≡ Some a
     one_each v a h = entry_found made v a h (λ b has. let s : One b ≡ One a = sym (are.gets (entry v b) has).known ∙ (are.gets (entry v a) h).known in cc)
 
-    module _ (t : ProgramTree O B) (seen : IsSeen c op t) where
-      made_in_tree : AreMadeConstants d t k (made_of made)
+    module _ (t : ProgramTree O B) (seen : IsSeen c op t) (w : TreeSurroundings by_handle A) (pins : PinsTaken c op w) where
+      made_in_tree : AreMadeConstants d w t k (made_of made)
       made_in_tree = record {
-        gets = λ v a h. let has = found_entry made v a h in gets_found d c op orderly values t seen k v a (is_below v (are.among (entry v a) has)) (are.gets (entry v a) has);
+        gets = λ v a h. let has = found_entry made v a h in gets_found d c op orderly values t seen k w pins told_below v a (is_below v (are.among (entry v a) has)) (are.gets (entry v a) has);
         all = λ v a g.
-            let f = found_gets d c op orderly values t seen k v a g in
+            let f = found_gets d c op orderly values t seen k w pins told_below v a g in
             let at = (numbers.values v).1 f.0 in
             one_each v a (are.all v a (index_has n.values at.0 v at.1) f.1);
       }
@@ -115,6 +129,18 @@ module _ {O B A : Type 0} (d : Dialect (in_program O B) A) (c : Program O B) (op
   placed v h = ⊎_elim
       (λ r. subst (DefinerIsPlaced c) (sym r.1.definer) (let around = block_around c op r.0 r.1.below in (around.0, around.1)))
       (λ r. subst (DefinerIsPlaced c) (sym r.1.definer) (is_something (block_at c r.0) r.1.view r.1.there))
+      (result_or_argument c op values v ((numbers.values v).0 h))
+
+  -- a value with a number is live
+  typed_live : ((e : DefiningEntity) (i : ℕ) (v : Value) → value_in (values_at c e) i ≡ Some v → type_at c v ≡ type_in (values_at c e) i)
+      → (e : DefiningEntity) (i : ℕ) (v : Value) → value_in (values_at c e) i ≡ Some v → IsLiveValue c v
+  typed_live typed e i v h = let ty = type_there (values_at c e) i v h in is_something (type_at c v) ty.0 (typed e i v h ∙ ty.1)
+
+  pub live : ((e : DefiningEntity) (i : ℕ) (v : Value) → value_in (values_at c e) i ≡ Some v → type_at c v ≡ type_in (values_at c e) i)
+      → (v : Value) → Lists n.values v → IsLiveValue c v
+  live typed v h = ⊎_elim
+      (λ r. typed_live typed (ByOp r.0) r.1.index v (result_at c r.0 r.1.view r.1.index v r.1.there r.1.stands))
+      (λ r. typed_live typed (ByBlock r.0) r.1.index v (argument_at c r.0 r.1.view r.1.index v r.1.there r.1.stands))
       (result_or_argument c op values v ((numbers.values v).0 h))
 
   -- an operation with a number is there
@@ -131,17 +157,19 @@ module _ {O B A : Type 0} (d : Dialect (in_program O B) A) (c : Program O B) (op
 
     module _ (made : List (Made A)) (are : (k : Facts by_handle A) → AreFactsBy n runs known k → AreMade d c k n.values made) (some : (t : ProgramTree O B) × StandsFor c op t) where
       -- where none does
-      pub decided : ((k : Facts by_handle A) → AreFactsBy n runs known k → (p : Ptr Operation) × Lists n.operations p × LacksAt d c k p → ⊥) → IsDecided d c op made
-      decided complete = record {
+      pub decided : (told : CanTellTaken c op) → ((k : Facts by_handle A) → AreFactsBy n runs known k → (p : Ptr Operation) × Lists n.operations p × LacksAt d c k p → ⊥) → IsDecided d c op made
+      decided told complete = record {
         list = let f = facts some.0 in put_list f.facts made (are f.facts f.by_number);
         one = λ m h. let f = facts some.0 in one_each f.facts made (are f.facts f.by_number) m.value m.constant h;
         in_tree = λ t stands.
             let f = facts t in
             record {
+              around = around_root told;
+              pins = told.1;
               facts = f.facts;
               best = f.best stands;
               complete = λ l. let a = found_lacking d c op orderly values t (seen t stands) f.facts l in complete f.facts f.by_number (a.0, (numbers.operations a.0).1 a.1, a.2);
-              is_made = made_in_tree f.facts made (are f.facts f.by_number) t (seen t stands);
+              is_made = made_in_tree f.facts made (are f.facts f.by_number) t (seen t stands) (around_root told) told.1;
             };
       }
 

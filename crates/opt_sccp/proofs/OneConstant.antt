@@ -10,7 +10,7 @@ use Rattle.ir_program.specs.declared.handles.Operation.{Operation}
 use Rattle.ir_program.specs.declared.handles.Value.{Value}
 use Rattle.ir_program.specs.declared.handles.DefiningEntity.{DefiningEntity}
 use Rattle.ir_program.specs.declared.handles.DefiningEntity.TheVariants.{Op as ByOp, Block as ByBlock}
-use Rattle.ir_program.specs.Edits.{KeepsValues}
+use Rattle.ir_program.specs.Edits.{KeepsErased, KeepsValues}
 use Rattle.ir_program.specs.UseEdits.{ReplacesValue}
 use Rattle.ir_trees.specs.Stands.{in_program}
 use Rattle.opt_trees.specs.Dialect.{Dialect}
@@ -49,6 +49,11 @@ module _ {O B : Type 0} (old built : Program O B) (p : Ptr Operation) (content :
 pub puts_keep : {O B : Type 0} (old new : Program O B) (e : DefiningEntity) (p : Ptr Operation) → DefinerIsPlaced old e → PutsAtDefiner old new e p → (q : Ptr Operation) → operation_at new q ≡ operation_at old q
 puts_keep old new (ByOp m) p place puts q = (puts place.0 place.1.index place.1.here).operations q
 puts_keep old new (ByBlock b) p place puts q = puts.operations q
+
+-- nor does it make an erased handle lead somewhere
+pub placed_erased : {O B : Type 0} (old new : Program O B) (e : DefiningEntity) (p : Ptr Operation) → DefinerIsPlaced old e → PutsAtDefiner old new e p → KeepsErased old new
+placed_erased old new (ByOp m) p place puts = (puts place.0 place.1.index place.1.here).erased
+placed_erased old new (ByBlock b) p place puts = puts.erased
 
 -- the first result of a new operation with one result
 pub first_result : {O B : Type 0} (c : Program O B) (p : Ptr Operation) (w : OperationView O) (ty : TypeHandle) (n : ℕ) (v : Value) → operation_at c p ≡ Some w

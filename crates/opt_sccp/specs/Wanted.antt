@@ -2,6 +2,7 @@
 use Rattle.std.specs.Prelude.{◌≡◌, ◌⊎◌, ◌↔◌, ℕ, ◌<◌, Bool, true, false, List, Option, Some, IsSome, slice_get}
 use Rattle.ir_program.specs.Program.{Program, OperationView, operation_at}
 use Rattle.ir_program.specs.Lists.{StandsInBlock, StandsInRegion}
+use Rattle.ir_program.specs.Uses.{IsUsed}
 use Rattle.ir_program.specs.declared.handles.Ptr.{Ptr}
 use Rattle.ir_program.specs.declared.handles.Operation.{Operation}
 use Rattle.ir_program.specs.declared.handles.Region.{Region}
@@ -82,11 +83,12 @@ module _ {O B A : Type 0} (d : Dialect (in_program O B) A) (c : Program O B) whe
     abbrev pub SomeLacks : List (Ptr Operation) → Type 0
     SomeLacks ps = (p : Ptr Operation) × Lists ps p × LacksAt p
 
-    -- the value gets the constant of this attribute
+    -- the value gets the constant of this attribute: some operation of the program takes the value, wherever it stands
     pub record GetsAt (v : Value) (a : A) : Type 0 where
       pub known : k.of v ≡ One a
       pub maker : IsSome (d.constant a)
       pub place : IsWantedAt v.definer
+      pub used : IsUsed c v
 
     -- the constant that the value gets, if it gets one
     abbrev pub IsConstantFor : Value → Option A → Type 0

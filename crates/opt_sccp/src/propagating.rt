@@ -1,5 +1,6 @@
 //! Constant propagation.
 ghost use Rattle.std.specs.Prelude.{◌≡◌, ◌≢◌, ◌≤◌, ◌^◌, ℕ, [], Err, Ok, IfErr, IfOk, IsSome, OnErr, OnOk};
+ghost use Rattle.ir_program.specs.Edits.{KeepsErased};
 ghost use Rattle.ir_program.specs.Program.{operation_at};
 ghost use Rattle.ir_program.specs.declared.handles.Operation.{Operation};
 ghost use Rattle.ir_program.specs.declared.handles.Ptr.{Ptr};
@@ -19,7 +20,7 @@ use ir_program::{Operation, Program, Ptr};
 use ir_trees::know_tree;
 use opt_dialect::{IRStatus, OptDialect, OptError};
 use opt_inside::facts::best_facts;
-use opt_inside::{Inside, know_occurrences, number_inside};
+use opt_inside::{Inside, know_occurrences, know_taken, number_inside};
 use std::alloc::Global;
 
 /// Which values get constants, and which, by the numbers of what is inside an operation. Nothing is changed.
@@ -47,6 +48,7 @@ fn decide_inside<D: OptDialect>(
     program.know_values();
     know_tree(program, op);
     know_occurrences(program, op);
+    know_taken(program, op);
     let facts = best_facts::<D>(alloc, program, op, inside)?;
     if is_lacking::<D>(program, inside, &facts) {
         return Err(OptError::UndeterminedOperand);
@@ -86,10 +88,11 @@ fn know_nothing_put<D: OptDialect>(program: &Program<D::Operation, D::Block>)
     program.know_values();
 }
 
-/// Puts constants in for the values below an operation that are known to be constants whenever they are there: for
-/// results of operations that can be folded, and for arguments of blocks. Values and blocks are as well known as by the
-/// most precise facts that are closed under what operations do. The uses of such a value are uses of its constant then;
-/// what defined it stays.
+/// Puts constants in for the values below an operation that are known to be constants whenever they are there, and that
+/// have a use: for results of operations that can be folded, and for arguments of blocks. Any operand of the program is
+/// a use, wherever it stands: in a block that doesn't run, forwarded along an edge, or outside the operation. Values and
+/// blocks are as well known as by the most precise facts that are closed under what operations do. The uses of such a
+/// value are uses of its constant then; what defined it stays, without a use.
 ///
 /// Source: Wegman and Zadeck, Constant propagation with conditional branches, 1991.
 ///
@@ -112,6 +115,7 @@ pub fn sccp<D: OptDialect, T: TypeTable>(
     ensures numbers { OnOk result (MovesCounterTo D.meaning ctx.old.program op ctx.new.program.counter) }
     ensures full { result ≡ Err CounterFull → (n : ℕ) × MovesCounterTo D.meaning ctx.old.program op n × (2 ^ 64 ≤ n) }
     ensures refused_same { result ≡ Err UndeterminedOperand → ctx.new ≡ ctx.old }
+    ensures erased { KeepsErased ctx.old.program ctx.new.program }
     ensures types { ctx.new.types ≡ ctx.old.types }
 {
     know_nothing_put::<D>(ctx.program());

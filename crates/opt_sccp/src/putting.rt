@@ -1,7 +1,7 @@
 //! Constants put in for values.
 ghost use Rattle.std.specs.Prelude.{◌≡◌, ◌≢◌, ◌≤◌, ◌+◌, ◌^◌, [], ◌∷◌, Err, Some, IfErr, IfOk, IsSome, OnErr, OnOk, length};
 ghost use Rattle.ir_program.specs.Adds.{SomeCame};
-ghost use Rattle.ir_program.specs.Edits.{KeepsValues};
+ghost use Rattle.ir_program.specs.Edits.{KeepsErased, KeepsValues};
 ghost use Rattle.ir_program.specs.Lists.{IsUnlinkedOperation, regions_in};
 ghost use Rattle.ir_program.specs.Made.{BuildsOperation};
 ghost use Rattle.ir_program.specs.Program.{operation_at};
@@ -46,6 +46,7 @@ pub fn put_constants<D: OptDialect, T: TypeTable>(
     ensures refused { IfErr result IsShortage }
     ensures numbers { OnOk result (ctx.new.program.counter ≡ ctx.old.program.counter + length made.now) }
     ensures full { result ≡ Err CounterFull → 2 ^ 64 ≤ ctx.old.program.counter + length made.now }
+    ensures erased { KeepsErased ctx.old.program ctx.new.program }
     ensures types { ctx.new.types ≡ ctx.old.types }
 {
     let program = ctx.program();
@@ -73,6 +74,7 @@ fn new_constant<D: OptDialect, T: TypeTable>(
     ensures same { OnErr result (LeadsAlike ctx.old.program ctx.new.program) }
     ensures refused { IfErr result IsShortage }
     ensures full { result ≡ Err CounterFull → 2 ^ 64 ≤ ctx.old.program.counter + 1 }
+    ensures erased { KeepsErased ctx.old.program ctx.new.program }
     ensures types { ctx.new.types ≡ ctx.old.types }
 {
     let Some(payload) = D::constant(alloc, constant)? else {
@@ -101,6 +103,7 @@ fn put_one<D: OptDialect, T: TypeTable>(
     ensures refused { IfErr result IsShortage }
     ensures numbers { OnOk result (ctx.new.program.counter ≡ ctx.old.program.counter + 1) }
     ensures full { result ≡ Err CounterFull → 2 ^ 64 ≤ ctx.old.program.counter + 1 }
+    ensures erased { KeepsErased ctx.old.program ctx.new.program }
     ensures types { ctx.new.types ≡ ctx.old.types }
 {
     ctx.program().know_values();

@@ -1,7 +1,7 @@
 //! Which values get constants, and which operations lack an operand.
 ghost use Rattle.std.specs.Prelude.{◌≡◌, ◌⊎◌, ◌↔◌, true, false, Some, IfOk, IsSome, IsTrue, slice_get, unwrap_or};
 ghost use Rattle.std.specs.List.{list_all};
-ghost use Rattle.ir_program.specs.Program.{operation_at, block_at};
+ghost use Rattle.ir_program.specs.Program.{operation_at, block_at, IsLiveValue};
 ghost use Rattle.ir_program.specs.Rows.{operands_at};
 ghost use Rattle.ir_program.specs.declared.handles.Operation.{Operation};
 ghost use Rattle.ir_program.specs.declared.handles.Ptr.{Ptr};
@@ -193,7 +193,8 @@ fn is_wanted<D: OptDialect>(
     }
 }
 
-/// The constant that is put in for a value of which this is known, if one is.
+/// The constant that is put in for a value of which this is known, if one is. A value that no operation of the program
+/// takes gets none.
 ///
 /// # Errors
 /// There may be no memory.
@@ -205,13 +206,17 @@ fn constant_for<D: OptDialect>(
     value: Value,
     fact: Known<D::Constant>,
 ) -> Result<Option<D::Constant>, AllocError>
-    requires { DefinerIsPlaced program.now value.definer }
+    requires placed { DefinerIsPlaced program.now value.definer }
+    requires live { IsLiveValue program.now value }
     ensures { IfOk result (λ constant. OfFacts inside.now facts.now
         (λ k. fact ≡ k.of value → IsConstantFor D.meaning program.now k value constant)) }
 {
     let Known::One(constant) = fact else {
         return Ok(None);
     };
+    if !program.is_used(value) {
+        return Ok(None);
+    }
     if !is_wanted::<D>(program, inside, facts, value.definer()) {
         return Ok(None);
     }
@@ -232,7 +237,8 @@ pub(crate) fn made_constants<D: OptDialect>(
     inside: &Inside,
     facts: &KnownFacts<D::Constant>,
 ) -> Result<Vec<Made<D::Constant>>, AllocError>
-    requires { (v : Value) → Lists inside.now.values.keys v → DefinerIsPlaced program.now v.definer }
+    requires placed { (v : Value) → Lists inside.now.values.keys v → DefinerIsPlaced program.now v.definer }
+    requires live { (v : Value) → Lists inside.now.values.keys v → IsLiveValue program.now v }
     ensures { IfOk result (λ made. OfFacts inside.now facts.now
         (λ k. AreMade D.meaning program.now k inside.now.values.keys made.items)) }
 {

@@ -11,6 +11,7 @@ use Rattle.ir_program.specs.declared.handles.IRNode.TheVariants.{Operation as Op
 use Rattle.ir_program.specs.declared.handles.Ptr.{Ptr}
 use Rattle.ir_program.specs.declared.handles.BasicBlock.{BasicBlock}
 use Rattle.ir_program.specs.declared.handles.Value.{Value}
+use Rattle.opt_handles.proofs.Handles.{erased_twice}
 use Rattle.opt_simplify.specs.Removed.{without, IsWithinPickedBlocks, ArePickedApart, DropsPickedBlocks, ErasesPickedBlocks, NamesNoneOfBlocks, NamesWithin}
 use Rattle.opt_simplify.proofs.RemovedDropped.{KeepsPlaces, drops_kept, kept_back, inside_kept, within_kept}
 
@@ -61,4 +62,5 @@ module _ {O B : Type 0} (old mid : Program O B) (picks : Ptr BasicBlock → Bool
     blocks = λ b out. erases.blocks b (λ h. out (was_within (BlockNode b) h)) ∙ drops.blocks b;
     regions = λ r out. erases.regions r (λ h. out (was_within (RegionNode r) h)) ∙ ap (option_map (λ (v : RegionView). record v { blocks = without picks v.blocks })) (drops.regions r);
     gone = λ e live h. erases.gone e (live_kept e live) (within_kept old mid kept picks e h);
+    erased = erased_twice old mid new drops.erased erases.erased;
   }

@@ -10,6 +10,7 @@ use Rattle.ir_program.specs.declared.handles.Operation.{Operation}
 use Rattle.ir_program.specs.declared.handles.Region.{Region}
 use Rattle.ir_program.specs.declared.handles.BasicBlock.{BasicBlock}
 use Rattle.ir_trees.proofs.Members.{at_has}
+use Rattle.opt_handles.proofs.Handles.{erased_none, erased_twice}
 use Rattle.opt_simplify.specs.Removed.{is_listed, IsWithinPickedBlocks, DropsPickedBlocks, DecidesInsideBlock}
 use Rattle.opt_simplify.proofs.RemovedAmong.{and_also, also_it, also_picked, it_or_picked, among_more, has_among}
 
@@ -91,6 +92,7 @@ module _ {O B : Type 0} where
     either = λ p. inl refl;
     blocks = λ b. refl;
     regions = λ r. refl;
+    erased = erased_none c;
   }
 
   -- one operation more
@@ -123,6 +125,7 @@ module _ {O B : Type 0} where
           (now p);
       blocks = λ b. drops.blocks b ∙ done.blocks b;
       regions = λ r. drops.regions r ∙ done.regions r;
+      erased = erased_twice old mid new done.erased drops.erased;
     }
 
   -- one turn of the loop over the list of those whose uses are taken away

@@ -19,6 +19,8 @@ use Rattle.ir_program.specs.Replacing.{same_block}
 use Rattle.ir_trees.proofs.HandleTests.{block_yes, block_no}
 use Rattle.ir_trees.specs.Searched.{AreDistinct}
 use Rattle.ir_trees.proofs.Members.{Has, Once, at_has, has_at, once_of}
+use Rattle.opt_handles.specs.Handles.{KeepsHandles}
+use Rattle.opt_handles.proofs.Handles.{erased_none, erased_twice}
 use Rattle.opt_inside.proofs.Around.{HasLists}
 use Rattle.opt_simplify.specs.Removed.{is_listed, without, IsWithinPickedBlocks, ArePickedApart, ErasesPickedBlocks, DecidesInsideBlock, DecidesWithin, NamesNoneOfBlocks}
 use Rattle.opt_simplify.proofs.RemovedAmong.{and_also, also_it, also_picked, it_or_picked, among_more, among_has, has_among, has_taken}
@@ -266,6 +268,7 @@ module _ {O B : Type 0} where
               (λ l. ⊎_elim (λ i. inr (erases.gone e l i)) (λ out. inl (live_still e out l)) (decides e))
               (λ g. inr (gone_still mid new erases.erased e g))
               (done.decided e there);
+          erased = erased_twice old mid new done.erased erases.erased;
         }
 
   -- nothing is erased
@@ -277,10 +280,30 @@ module _ {O B : Type 0} where
     regions = λ r out. all_left (region_at c r);
     gone = λ e there h. let f : false ≡ true = h.1 in cc;
     decided = λ e there. inl there;
+    erased = erased_none c;
   } where
     all_left : (o : Option RegionView) → o ≡ option_map (λ (v : RegionView). record v { blocks = without (λ p. false) v.blocks }) o
     all_left None = refl
     all_left (Some v) = ap (λ ps. Some (record v { blocks = ps })) (sym (without_none (λ p. false) v.blocks (λ p has. refl)))
+
+  -- what is inside the root is there
+  inside_there : (c : Program O B) (op : Ptr Operation) → IsSome (operation_at c op) → (e : IRNode)
+      → StandsInside c (OperationNode op) e → IsLiveNode c e
+  inside_there c op live _ itself = live
+  inside_there c op live _ (in_block p b s i) = s.operation
+  inside_there c op live _ (in_region b r s i) = s.block
+  inside_there c op live _ (in_operation r p s i) = s.region
+
+  -- blocks that go are erased with all that is in them, and the rest stays inside what it was in
+  pub handles_kept : (old new : Program O B) → HasLists old → (picks : Ptr BasicBlock → Bool)
+      → ErasesPickedBlocks old new picks → (op : Ptr Operation) → IsSome (operation_at old op) → KeepsHandles old new op
+  handles_kept old new lists picks done op root = record {
+    erased = done.erased;
+    inside = λ e i. ⊎_elim
+        (λ live. inl (is_inside old new lists picks done (OperationNode op) e (live_outside old new lists picks done e live) i))
+        inr
+        (done.decided e (inside_there old op root e i));
+  }
 
   -- what operations name of what is left they named before
   module _ (old mid : Program O B) (lists : HasLists old) (picks : Ptr BasicBlock → Bool) (done : ErasesPickedBlocks old mid picks) where

@@ -23,6 +23,7 @@ use Rattle.opt_trees.specs.Simplify.{StartingRegions, keep, IsUnreached, IsCut}
 use Rattle.opt_inside.specs.Occurring.{IsBlockBelow}
 use Rattle.opt_inside.specs.Outside.{KeepsOutside}
 use Rattle.opt_inside.proofs.Around.{HasLists, inside_both, around_operation, around_block, around_region, is_root}
+use Rattle.opt_handles.proofs.Handles.{erased_none}
 use Rattle.opt_simplify.specs.Phases.{RemovesBlocks}
 use Rattle.opt_simplify.specs.Removed.{without, IsWithinPickedBlocks, ErasesPickedBlocks}
 use Rattle.opt_inside.specs.reach.Fates.{HasReachTest}
@@ -167,6 +168,7 @@ none_lost {O} {B} c picks none = record {
   gone = λ e live h. let f : true ≡ false = sym h.1 ∙ none h.0 in cc;
   there = λ b h. let f : true ≡ false = sym h ∙ none b in cc;
   decided = λ e live. inl live;
+  erased = erased_none c;
 } where
   all_left : (o : Option RegionView) → o ≡ option_map (λ (v : RegionView). record v { blocks = without picks v.blocks }) o
   all_left None = refl

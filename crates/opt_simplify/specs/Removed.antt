@@ -1,6 +1,7 @@
 -- What removing blocks makes of a program, step by step.
 use Rattle.std.specs.Prelude.{◌≡◌, ◌⊎◌, ◌↔◌, ℕ, Bool, true, false, List, [], ◌∷◌, Some, cond, option_map, if◌then◌else◌, slice_get}
 use Rattle.ir_program.specs.Drops.{without_uses}
+use Rattle.ir_program.specs.Edits.{KeepsErased}
 use Rattle.ir_program.specs.Erased.{definer_node, IsGone as IsErased}
 use Rattle.ir_program.specs.Lists.{StandsInside, IsLiveNode}
 use Rattle.ir_program.specs.Program.{Program, RegionView, operation_at, block_at, region_at}
@@ -49,6 +50,7 @@ module _ {O B : Type 0} where
     pub either : (p : Ptr Operation) → (operation_at new p ≡ operation_at old p) ⊎ (operation_at new p ≡ option_map without_uses (operation_at old p))
     pub blocks : (b : Ptr BasicBlock) → block_at new b ≡ block_at old b
     pub regions : (r : Ptr Region) → region_at new r ≡ region_at old r
+    pub erased : KeepsErased old new
 
   -- the blocks that are picked are erased with all that is in them, and each other operation, block and region is as it was, without them
   pub record ErasesPickedBlocks (old new : Program O B) (picks : Ptr BasicBlock → Bool) : Type 0 where
@@ -58,6 +60,7 @@ module _ {O B : Type 0} where
     pub regions : (r : Ptr Region) → (IsWithinPickedBlocks old picks (RegionNode r) → ⊥) → region_at new r ≡ option_map (λ (v : RegionView). record v { blocks = without picks v.blocks }) (region_at old r)
     pub gone : (e : IRNode) → IsLiveNode old e → IsWithinPickedBlocks old picks e → IsErased new e
     pub decided : (e : IRNode) → IsLiveNode old e → IsLiveNode new e ⊎ IsErased new e
+    pub erased : KeepsErased old new
 
   -- no operation takes a value that is defined in what is picked, or may go on to a block there
   pub record NamesNoneOfBlocks (c : Program O B) (picks : Ptr BasicBlock → Bool) : Type 0 where

@@ -7,6 +7,7 @@ ghost use Rattle.ir_trees.specs.Searched.{AreDistinct, Lists};
 ghost use Rattle.ir_trees.specs.Stands.{ProgramTree, StandsFor, by_handle};
 ghost use Rattle.opt_dialect.specs.declared.status.IRStatus.TheVariants.{Unchanged};
 ghost use Rattle.opt_dialect.specs.declared.status.OptError.TheVariants.{LiveUse, Memory};
+ghost use Rattle.opt_handles.specs.Handles.{KeepsHandles};
 ghost use Rattle.opt_inside.specs.Numbered.{NumbersInside, numbers_of};
 ghost use Rattle.opt_inside.specs.reach.Edges.{HasLocalEdgesFrom};
 ghost use Rattle.opt_inside.specs.reach.Fates.{HasReachTest};
@@ -115,8 +116,8 @@ fn find_unreached<D: Meanings>(
 
 /// Removes the blocks of visited SSA regions inside an operation that no path from the entry of their region reaches, with
 /// all that is in them. A region is visited where looking begins there, or where it is one of an operation in a block of a
-/// visited region that is reached from the entry, or is the entry where the region is no SSA region. The time is linear in
-/// what is inside.
+/// visited region that is reached from the entry, or is the entry where the region is no SSA region. What goes is erased:
+/// its handles are refused from then on, and so is each that was refused before. The time is linear in what is inside.
 ///
 /// Source: Muchnick, Advanced compiler design and implementation, 1997, 18.1.
 ///
@@ -144,6 +145,7 @@ pub fn remove_unreached<D: OptDialect, T: TypeTable>(
     ensures numbers { ctx.new.program.counter ≡ ctx.old.program.counter }
     ensures types { ctx.new.types ≡ ctx.old.types }
     ensures kept { OnErr result (ctx.new ≡ ctx.old) }
+    ensures handles { KeepsHandles ctx.old.program ctx.new.program op }
 {
     know_tree(ctx.program(), op);
     ctx.program().know_lists();

@@ -105,11 +105,71 @@ use v
 ret
 }";
 
-/// Programs, and what constant propagation makes of them.
+const FORWARDED: &str = "box {
+^a
+one = const 1
+br ^b one
+^b u
+br ^d u
+^d v
+ret
+}";
+
+const FORWARDED_AFTER: &str = "box {
+^a
+one = const 1
+br ^b one
+^b u
+k = const 1
+br ^d k
+^d v
+ret
+}";
+
+const UNUSED: &str = "box {
+^a
+one = const 1
+x = add one one
+br ^b x
+^b u
+ret
+}";
+
+const UNUSED_AFTER: &str = "box {
+^a
+one = const 1
+k = const 2
+x = add one one
+br ^b k
+^b u
+ret
+}";
+
+const UNUSED_SUM: &str = "box {
+^a
+one = const 1
+x = add one one
+ret
+}";
+
+/// Programs, and what constant propagation makes of them. A value that is only forwarded has a use.
 const KNOWN: &[(&str, &str)] = &[
     (DIAMOND, DIAMOND_AFTER),
     (LOOP, LOOP_AFTER),
     (SUMS, SUMS_AFTER),
+    (FORWARDED, FORWARDED_AFTER),
+    (UNUSED, UNUSED_AFTER),
+];
+
+/// Programs in which no known value has a use that isn't a constant's: what a first time left too.
+const SETTLED: &[&str] = &[
+    TWO_EDGES,
+    UNUSED_SUM,
+    DIAMOND_AFTER,
+    LOOP_AFTER,
+    SUMS_AFTER,
+    FORWARDED_AFTER,
+    UNUSED_AFTER,
 ];
 
 #[test]
@@ -135,14 +195,10 @@ fn constants_come_in_for_known_values(rt: HostRuntime) -> Result<(), Fail> {
 }
 
 #[test]
-fn both_edges_to_a_block_forward_to_it(rt: HostRuntime) -> Result<(), Fail> {
+fn nothing_comes_in_where_no_known_value_has_a_use(rt: HostRuntime) -> Result<(), Fail> {
     let alloc = rt.alloc();
-    test_after(
-        &rt,
-        alloc,
-        Pass::Sccp,
-        TWO_EDGES,
-        Ok(IRStatus::Unchanged),
-        TWO_EDGES,
-    )
+    for text in SETTLED {
+        test_after(&rt, alloc, Pass::Sccp, text, Ok(IRStatus::Unchanged), text)?;
+    }
+    Ok(())
 }

@@ -41,6 +41,18 @@ ret
 ret
 }";
 
+/// The constant is used in what goes alone.
+const USED_INSIDE: &str = "box {
+^b
+a = const 1
+pure {
+^c
+use a
+ret
+}
+ret
+}";
+
 const EMPTY: &str = "box {
 ^b
 ret
@@ -94,7 +106,11 @@ const USED: &[&str] = &[
 ];
 
 /// Programs, and what elimination makes of them.
-const DEAD: &[(&str, &str)] = &[(NESTED, EMPTY), (CARRIED, CARRIED_AFTER)];
+const DEAD: &[(&str, &str)] = &[
+    (USED_INSIDE, EMPTY),
+    (NESTED, EMPTY),
+    (CARRIED, CARRIED_AFTER),
+];
 
 /// Operations without effects, so many in each other, that use a value of the outermost block.
 fn nest(alloc: Global, depth: usize) -> Result<String, AllocError> {

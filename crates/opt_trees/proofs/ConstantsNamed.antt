@@ -8,9 +8,10 @@ use Rattle.opt_rows.specs.declared.known.Known.{Known}
 use Rattle.opt_rows.specs.declared.known.Known.TheVariants.{Undetermined, One, Any}
 use Rattle.opt_rows.specs.Known.{AtOrBelow, asked, answer, AllAny}
 use Rattle.opt_trees.specs.Occurrences.{Has, types_of, Occurrence, BlockOccurrence, occurrences_of, block_occurrences_of, at_root, rename_occurrence, Renaming, maps, Use}
+use Rattle.opt_trees.specs.Dce.{TreeSurroundings}
 use Rattle.opt_trees.specs.Dialect.{Dialect, Lawful}
 use Rattle.opt_trees.specs.Facts.{Facts, Asked, FoldClosed, forwarded, EdgeClosed, BranchClosed, EntriesRun, IsClosed, IsMostPrecise}
-use Rattle.opt_trees.specs.Sccp.{Name, Old, New, fresh, IsResult, IsArgument, AreMadeConstants, used_as, put_root, IsSccp, CanTell, IsOfConstant, NamesConstants}
+use Rattle.opt_trees.specs.Sccp.{Name, Old, New, fresh, IsResult, IsArgument, IsUsed, AreMadeConstants, used_as, put_root, IsSccp, CanTell, IsOfConstant, NamesConstants}
 use Rattle.opt_trees.proofs.Lists.{at-map, from_some, none_some, has-map, names-map}
 use Rattle.opt_trees.proofs.Best.{best_unique}
 use Rattle.opt_trees.proofs.FactsRenamed.{pushed, pulled_pushed, best_pushed}
@@ -144,19 +145,19 @@ module _ {N : Names} {S : Contents} {A : Type 0} (d : Dialect S A) (t : Root N S
       (find BlockRunsWith (λ x. tell_both (k.runs x.label.name) (tell_has tell v (names_of x.label.arguments))) (block_occurrences_of t)))
       (find RunsWith (λ o. tell_both (k.runs o.site.label.name) (tell_has tell v (names_of o.head.results))) (occurrences_of t))
 
-module _ {N : Names} {S : Contents} {A : Type 0} (d : Dialect S A) (law : Lawful d) (t : Root N S) (k : Facts N A) (best : IsMostPrecise d t k) (made : N.value → Option A) (is_made : AreMadeConstants d t k made) (tell : CanTell N.value) where
+module _ {N : Names} {S : Contents} {A : Type 0} (d : Dialect S A) (law : Lawful d) (w : TreeSurroundings N A) (t : Root N S) (k : Facts N A) (best : IsMostPrecise d t k) (made : N.value → Option A) (is_made : AreMadeConstants d w t k made) (tell : CanTell N.value) where
   abbrev after : Root (fresh N) S
   after = put_root {N = N} d made t
 
-  -- a value that got no constant, though it is known to be one that can be made, is the result of a constant
-  unmade : (v : N.value) (a : A) (c : S.of_operation) → made v ≡ None → k.of v ≡ One a → d.constant a ≡ Some c → IsOfConstant d after (Old v)
-  unmade v a c none known by = ⊎_elim
+  -- a used value that got no constant, though it is known to be one that can be made, is the result of a constant
+  unmade : (v : N.value) (a : A) (c : S.of_operation) → IsUsed w t v → made v ≡ None → k.of v ≡ One a → d.constant a ≡ Some c → IsOfConstant d after (Old v)
+  unmade v a c used none known by = ⊎_elim
       (λ p. folds p.0 p.1 p.2.0 p.2.1 (d.is_foldable p.0.head.content) refl)
       (λ p. got (inr (record { definer = p.0; stands = p.1; in_run = p.2.0; argument = p.2.1 })))
       (definer_runs d t k best tell v a known)
     where
       got : IsResult d t k v ⊎ IsArgument t k.runs v → IsOfConstant d after (Old v)
-      got p = absurd (none_some a (sym none ∙ is_made.all v a (record { known = known; maker = c; made_by = by; place = p })))
+      got p = absurd (none_some a (sym none ∙ is_made.all v a (record { known = known; maker = c; made_by = by; place = p; used = used })))
 
       any_of : (us : List N.value) → Has v us → AllAny k.of us → k.of v ≡ Any
       any_of [] h c = absurd h
@@ -180,7 +181,7 @@ module _ {N : Names} {S : Contents} {A : Type 0} (d : Dialect S A) (law : Lawful
   -- a value that got a constant is used by that constant's name
   got : (v : N.value) (a : A) → made v ≡ Some a → IsOfConstant d after (New v)
   got v a e =
-      let p = placed d made law t k best is_made v a e in
+      let p = placed d made law w t k best is_made v a e in
       let c = p.constant in
       record {
         definer = c.it;
@@ -195,24 +196,24 @@ module _ {N : Names} {S : Contents} {A : Type 0} (d : Dialect S A) (law : Lawful
       of_constant : Constant d made p → IsOfConstant d after v
       of_constant w = absurd (none_some v (ap (λ y. slice_get y.operands i) (sym w.3.head) ∙ ue.operand))
 
-      by_case : (u : N.value) (q : Option A) → made u ≡ q → used made u ≡ v → IsOfConstant d after v
-      by_case u None e is =
+      by_case : (u : N.value) → IsUsed w t u → (q : Option A) → made u ≡ q → used made u ≡ v → IsOfConstant d after v
+      by_case u h None e is =
           let old : Old u ≡ v = sym (ap (λ z. used_as u z) e) ∙ is in
-          subst (IsOfConstant d after) old (unmade u a c e (sym (same u) ∙ ap l.of old ∙ known) by)
-      by_case u (Some b) e is =
+          subst (IsOfConstant d after) old (unmade u a c h e (sym (same u) ∙ ap l.of old ∙ known) by)
+      by_case u h (Some b) e is =
           let new : New u ≡ v = sym (ap (λ z. used_as u z) e) ∙ is in
           subst (IsOfConstant d after) new (got u b e)
 
       of_old : WasOld d made (occurrences_of t) p → IsOfConstant d after v
       of_old w =
           let o = from_some (used made) (slice_get w.it.head.operands i) v (sym (at-map (used made) w.it.head.operands i) ∙ ap (λ y. slice_get y.operands i) (sym w.is.head) ∙ ue.operand) in
-          by_case o.it (made o.it) refl o.is
+          by_case o.it (inl (w.it, i, record { stands = w.stands; operand = o.some })) (made o.it) refl o.is
 
 -- what sccp makes leaves no operand that is known to be a constant, but those that name one
-pub sccp_goal : {N : Names} {S : Contents} {A : Type 0} (d : Dialect S A) (t : Root N S) (after : Root (fresh N) S) (l : Facts (fresh N) A) → Lawful d → CanTell N.value → IsSccp d t after → IsMostPrecise d after l → (v : Name N.value N.value) (user : Occurrence (fresh N) S) (i : ℕ) (a : A) (c : S.of_operation) → Use after v user i → l.of v ≡ One a → d.constant a ≡ Some c → IsOfConstant d after v
-sccp_goal {N} d t after l law tell p best v user i a c ue known by =
-    let kept = facts_kept d t after p.facts l law p p.best best in
-    subst (λ u. IsOfConstant d u v) (sym p.is) (named d law t p.facts p.best p.made p.is_made tell l kept.of v user i a c (subst (λ u. Use u v user i) p.is ue) known by)
+pub sccp_goal : {N : Names} {S : Contents} {A : Type 0} (d : Dialect S A) (w : TreeSurroundings N A) (t : Root N S) (after : Root (fresh N) S) (l : Facts (fresh N) A) → Lawful d → CanTell N.value → IsSccp d w t after → IsMostPrecise d after l → (v : Name N.value N.value) (user : Occurrence (fresh N) S) (i : ℕ) (a : A) (c : S.of_operation) → Use after v user i → l.of v ≡ One a → d.constant a ≡ Some c → IsOfConstant d after v
+sccp_goal {N} d w t after l law tell p best v user i a c ue known by =
+    let kept = facts_kept d w t after p.facts l law p p.best best in
+    subst (λ u. IsOfConstant d u v) (sym p.is) (named d law w t p.facts p.best p.made p.is_made tell l kept.of v user i a c (subst (λ u. Use u v user i) p.is ue) known by)
 
 -- the same under other names
 pub constants_renamed : {N M : Names} {S : Contents} {A : Type 0} (d : Dialect S A) (r : Renaming N M) (t : Root N S) (k : Facts N A) → IsMostPrecise d t k → NamesConstants d t → NamesConstants d (rename_root (maps r) t)

@@ -8,6 +8,7 @@ use Rattle.opt_rows.specs.declared.known.Known.{Known}
 use Rattle.opt_rows.specs.declared.known.Known.TheVariants.{Undetermined, One, Any}
 use Rattle.opt_rows.specs.Known.{AtOrBelow, and_known, asked, answer, AllBelow, AllAny, MorePrecise, KnowsMore}
 use Rattle.opt_trees.specs.Occurrences.{Has, types_of, Occurrence, BlockOccurrence, occurrences_of, block_occurrences_of, defined_in, at_root}
+use Rattle.opt_trees.specs.Dce.{TreeSurroundings}
 use Rattle.opt_trees.specs.Dialect.{Dialect, Lawful}
 use Rattle.opt_trees.specs.Facts.{Facts, Asked, FoldClosed, forwarded, EdgeClosed, BranchClosed, EntriesRun, OperationClosed, IsClosed, IsMostPrecise}
 use Rattle.opt_trees.specs.Sccp.{Name, Old, New, fresh, AreMadeConstants, used_as, old_head, put_root, IsSccp, facts_after, CanTell}
@@ -129,14 +130,14 @@ second_true : (a b : Bool) → (a && b) ≡ true → b ≡ true
 second_true true b e = e
 second_true false b e = absurd (cc e)
 
-no_new : {V T : Type 0} (v : V) (vs : List (Defined V T)) → Has {X = Name V V} (New v) (names_of (map (rename_defined Old) vs)) → ⊥
+pub no_new : {V T : Type 0} (v : V) (vs : List (Defined V T)) → Has {X = Name V V} (New v) (names_of (map (rename_defined Old) vs)) → ⊥
 no_new v [] h = h
 no_new {V} v (u ∷ vs) h = ⊎_elim (λ e. apart v u.name e) (λ z. no_new v vs z) h
   where
     apart : (x y : V) → ◌≡◌ {A = Name V V} (New x) (Old y) → ⊥
     apart x y e = cc e
 
-module _ {N : Names} {S : Contents} {A : Type 0} (d : Dialect S A) (made : N.value → Option A) (law : Lawful d) (tell : CanTell A) (t : Root N S) (k : Facts N A) (best : IsMostPrecise d t k) (is_made : AreMadeConstants d t k made) where
+module _ {N : Names} {S : Contents} {A : Type 0} (d : Dialect S A) (made : N.value → Option A) (law : Lawful d) (tell : CanTell A) (w : TreeSurroundings N A) (t : Root N S) (k : Facts N A) (best : IsMostPrecise d t k) (is_made : AreMadeConstants d w t k made) where
   abbrev after : Root (fresh N) S
   after = put_root {N = N} d made t
 
@@ -232,10 +233,10 @@ module _ {N : Names} {S : Contents} {A : Type 0} (d : Dialect S A) (made : N.val
         (below_more (old_facts m).of (names_of h.results) (d.fold h.content (types_of h.results) ys) (d.fold h.content (types_of h.results) zs) (law.folds_more h.content (types_of h.results) ys zs y) e)
 
     own_result : (o : Occurrence N S) → Has o (occurrences_of t) → m.runs o.site.label.name ≡ true → (v : N.value) → Has v (names_of o.head.results) → IsOwn v
-    own_result o h runs v r a e = let g = is_made.gets v a e in constant_below d made law t k best is_made m closed v a g.maker o.site.label.name (result_there d made v a g.maker e g.made_by t.regions (at_root t) (at_root after) tt o h r) runs
+    own_result o h runs v r a e = let g = is_made.gets v a e in constant_below d made law w t k best is_made m closed v a g.maker o.site.label.name (result_there d made v a g.maker e g.made_by t.regions (at_root t) (at_root after) tt o h r) runs
 
     own_argument : (x : BlockOccurrence N S) → Has x (block_occurrences_of t) → m.runs x.label.name ≡ true → (v : N.value) → Has v (names_of x.label.arguments) → IsOwn v
-    own_argument x h runs v r a e = let g = is_made.gets v a e in constant_below d made law t k best is_made m closed v a g.maker x.label.name (argument_there d made v a g.maker e g.made_by t.regions (at_root t) (at_root after) x h r) runs
+    own_argument x h runs v r a e = let g = is_made.gets v a e in constant_below d made law w t k best is_made m closed v a g.maker x.label.name (argument_there d made v a g.maker e g.made_by t.regions (at_root t) (at_root after) x h r) runs
 
     edge_both : (h : Head N S) (i : ℕ) (b : N.block) → EdgeClosed d (block_occurrences_of t) k h i b → EdgeClosed d (block_occurrences_of after) m (old_head {N = N} made h) i b → EdgeClosed d (block_occurrences_of t) both h i b
     edge_both h i b e f = record {
@@ -291,15 +292,15 @@ module _ {N : Names} {S : Contents} {A : Type 0} (d : Dialect S A) (made : N.val
         by_case : (q : Option A) → made v ≡ q → AtOrBelow (m.of (New v)) (answer (made v))
         by_case None e = subst (λ z. AtOrBelow z (answer (made v))) (sym (closed.outside (New v) (λ h. let p = new_made v h in none_some p.0 (sym e ∙ p.1)))) tt
         by_case (Some a) e =
-            let p = placed d made law t k best is_made v a e in
-            subst (λ z. AtOrBelow (m.of (New v)) (answer z)) (sym e) (constant_below d made law t k best is_made m closed v a p.maker p.in_block p.constant (runs_more p.in_block p.runs))
+            let p = placed d made law w t k best is_made v a e in
+            subst (λ z. AtOrBelow (m.of (New v)) (answer z)) (sym e) (constant_below d made law w t k best is_made m closed v a p.maker p.in_block p.constant (runs_more p.in_block p.runs))
 
     pub more_precise : MorePrecise (facts_after k made) m
     more_precise = record { fewer = runs_more; above = above_both }
 
   pub extended_best : IsMostPrecise d after (facts_after k made)
-  extended_best = record { closed = extended_closed d made law t k best is_made; best = more_precise }
+  extended_best = record { closed = extended_closed d made law w t k best is_made; best = more_precise }
 
 -- what sccp makes has most precise facts
-pub facts_after_best : {N : Names} {S : Contents} {A : Type 0} (d : Dialect S A) (t : Root N S) (after : Root (fresh N) S) → Lawful d → CanTell A → (p : IsSccp d t after) → IsMostPrecise d after (facts_after p.facts p.made)
-facts_after_best d t after law tell p = subst (λ u. IsMostPrecise d u (facts_after p.facts p.made)) (sym p.is) (extended_best d p.made law tell t p.facts p.best p.is_made)
+pub facts_after_best : {N : Names} {S : Contents} {A : Type 0} (d : Dialect S A) (w : TreeSurroundings N A) (t : Root N S) (after : Root (fresh N) S) → Lawful d → CanTell A → (p : IsSccp d w t after) → IsMostPrecise d after (facts_after p.facts p.made)
+facts_after_best d w t after law tell p = subst (λ u. IsMostPrecise d u (facts_after p.facts p.made)) (sym p.is) (extended_best d p.made law tell w t p.facts p.best p.is_made)

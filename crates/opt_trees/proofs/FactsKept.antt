@@ -8,6 +8,7 @@ use Rattle.opt_rows.specs.declared.known.Known.{Known}
 use Rattle.opt_rows.specs.declared.known.Known.TheVariants.{Undetermined, One, Any}
 use Rattle.opt_rows.specs.Known.{AtOrBelow, FactsOf, and_known, asked, answer, AllBelow, AllAny, MorePrecise}
 use Rattle.opt_trees.specs.Occurrences.{Has, types_of, picks, Occurrence, BlockOccurrence, occurrences_of, block_occurrences_of, defined_in, at_root}
+use Rattle.opt_trees.specs.Dce.{TreeSurroundings}
 use Rattle.opt_trees.specs.Dialect.{Dialect, Lawful}
 use Rattle.opt_trees.specs.Facts.{Facts, Asked, FoldClosed, forwarded, EdgeClosed, BranchClosed, EntriesRun, OperationClosed, IsClosed, IsMostPrecise}
 use Rattle.opt_trees.specs.Sccp.{Name, Old, New, fresh, AreMadeConstants, IsSccp, KeepsFacts, known_after, facts_after, used_as, constant_head, old_head, put, put_root}
@@ -135,7 +136,7 @@ module _ {N : Names} {S : Contents} {A : Type 0} (d : Dialect S A) (made : N.val
       below_under Old f vs (map f (forwarded d (old_head {N = N} made h) i))
       ∙ ap (AllBelow (λ v. f (Old v)) (names_of vs)) (ap (map f) (forwarded_put h i) ∙ map-map f (used made) (forwarded d h i))
 
-  module _ (law : Lawful d) (t : Root N S) (k : Facts N A) (best : IsMostPrecise d t k) (is_made : AreMadeConstants d t k made) where
+  module _ (law : Lawful d) (w : TreeSurroundings N A) (t : Root N S) (k : Facts N A) (best : IsMostPrecise d t k) (is_made : AreMadeConstants d w t k made) where
     abbrev pub after : Root (fresh N) S
     after = put_root {N = N} d made t
 
@@ -357,12 +358,12 @@ module _ {N : Names} {S : Contents} {A : Type 0} (d : Dialect S A) (made : N.val
             let p = placed v a e in
             at_both (l.of (New v)) (One a) (constant_below v a p.maker p.in_block p.constant (runs_kept p.in_block ∙ p.runs)) (subst (λ y. AtOrBelow y (l.of (New v))) (ap answer e) (more.above (New v)))
 
-        pub kept : KeepsFacts d t k l
+        pub kept : KeepsFacts d w t k l
         kept = record { runs = runs_kept; of = of_kept; made = λ v a g. made_kept v a (is_made.all v a g) }
 
 -- the most precise facts of what sccp makes
-pub facts_kept : {N : Names} {S : Contents} {A : Type 0} (d : Dialect S A) (t : Root N S) (after : Root (fresh N) S) (k : Facts N A) (l : Facts (fresh N) A) → Lawful d → IsSccp d t after → IsMostPrecise d t k → IsMostPrecise d after l → KeepsFacts d t k l
-facts_kept {N} d t after k l law p b c =
-    let is_made = subst (λ f. AreMadeConstants d t f p.made) (best_unique d t p.facts k p.best b) p.is_made in
+pub facts_kept : {N : Names} {S : Contents} {A : Type 0} (d : Dialect S A) (w : TreeSurroundings N A) (t : Root N S) (after : Root (fresh N) S) (k : Facts N A) (l : Facts (fresh N) A) → Lawful d → IsSccp d w t after → IsMostPrecise d t k → IsMostPrecise d after l → KeepsFacts d w t k l
+facts_kept {N} d w t after k l law p b c =
+    let is_made = subst (λ f. AreMadeConstants d w t f p.made) (best_unique d t p.facts k p.best b) p.is_made in
     let c' = subst (λ u. IsMostPrecise d u l) p.is c in
-    kept d p.made law t k b is_made l c'.closed (c'.best (extended d p.made law t k b is_made) (extended_closed d p.made law t k b is_made))
+    kept d p.made law w t k b is_made l c'.closed (c'.best (extended d p.made law w t k b is_made) (extended_closed d p.made law w t k b is_made))

@@ -19,4 +19,5 @@ pub mod Chains
 pub mod Covered
 pub mod Simplified
 pub mod FactsAfter
+pub mod ConstantsSettled
 pub mod RefusalsRenamed

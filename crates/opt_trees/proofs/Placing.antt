@@ -45,10 +45,10 @@ fresh_renaming r = record { operation = fresh_injection r.operation r.value; blo
 
 -- trees that agree under two renamings: what is made of them agrees too
 module _ {N M P : Names} {S : Contents} {A : Type 0} (d : Dialect S A) (f : Renaming N P) (g : Renaming M P) (t : Root N S) (u : Root M S) (same : rename_root (maps f) t ≡ rename_root (maps g) u) where
-  pub sccp_same : (a : Root (fresh N) S) (b : Root (fresh M) S) → IsSccp d t a → IsSccp d u b → rename_root (maps (fresh_renaming f)) a ≡ rename_root (maps (fresh_renaming g)) b
-  sccp_same a b x y = sccp_unique d (rename_root (maps g) u) (rename_root (maps (fresh_renaming f)) a) (rename_root (maps (fresh_renaming g)) b) (subst (λ z. IsSccp d z (rename_root (maps (fresh_renaming f)) a)) same (sccp_renamed d f t a x)) (sccp_renamed d g u b y)
-
   module _ (v : TreeSurroundings N A) (w : TreeSurroundings M A) (z : TreeSurroundings P A) (e : Agree f v z) (h : Agree g w z) where
+    pub sccp_same : (a : Root (fresh N) S) (b : Root (fresh M) S) → IsSccp d v t a → IsSccp d w u b → rename_root (maps (fresh_renaming f)) a ≡ rename_root (maps (fresh_renaming g)) b
+    sccp_same a b x y = sccp_unique d z (rename_root (maps g) u) (rename_root (maps (fresh_renaming f)) a) (rename_root (maps (fresh_renaming g)) b) (subst (λ q. IsSccp d z q (rename_root (maps (fresh_renaming f)) a)) same (sccp_renamed d f v z e t a x)) (sccp_renamed d g w z h u b y)
+
     pub dce_same : (a : Root N S) (b : Root M S) → IsDce d v t a → IsDce d w u b → rename_root (maps f) a ≡ rename_root (maps g) b
     dce_same a b x y = dce_unique d z (rename_root (maps g) u) (rename_root (maps f) a) (rename_root (maps g) b) (subst (λ q. IsDce d z q (rename_root (maps f) a)) same (dce_renamed d f t v z e a x)) (dce_renamed d g u w z h b y)
 

@@ -19,7 +19,7 @@ InBlock N S Regions c e = Unit {0}
 old_name : {V T : Type 0} (v : V) (vs : List (Defined V T)) → Has v (names_of vs) → Has {X = Name V V} (Old v) (names_of (map (rename_defined Old) vs))
 old_name v vs h = subst (Has (Old v)) (sym (names-map Old vs)) (has-map Old v (names_of vs) h)
 
-old_same : {V T : Type 0} (v : V) (vs : List (Defined V T)) → Has {X = Name V V} (Old v) (names_of (map (rename_defined Old) vs)) → Has v (names_of vs)
+pub old_same : {V T : Type 0} (v : V) (vs : List (Defined V T)) → Has {X = Name V V} (Old v) (names_of (map (rename_defined Old) vs)) → Has v (names_of vs)
 old_same v [] h = absurd h
 old_same {V} v (u ∷ vs) h = ⊎_elim (λ e. inl (same v u.name e)) (λ z. inr (old_same v vs z)) h
   where

@@ -1,24 +1,25 @@
 -- sccp gives one tree, and under other names the same tree.
 use Rattle.std.proofs.Common.{◌≡◌, ◌⊎◌, ⊎_elim, inl, inr, List, [], ◌∷◌, Option, Some, None, refl, sym, ap, ◌∙◌, subst}
-use Rattle.std.specs.Prelude.{map}
+use Rattle.std.specs.Prelude.{map, slice_get}
 use Rattle.ir_trees.specs.Names.{Names, Contents}
 use Rattle.ir_trees.specs.Renames.{Maps, rename_defined, rename_head, rename_label, rename, rename_root, names_of}
 use Rattle.ir_trees.specs.Trees.{Defined, Head, Label, Sort, Operations, Tree, end, operation, block, region, Root}
 use Rattle.opt_trees.specs.Occurrences.{Has, occurrences_of, block_occurrences_of, rename_occurrence, rename_block_occurrence, Renaming, maps}
+use Rattle.opt_trees.specs.Dce.{TreeSurroundings, Agree}
 use Rattle.opt_trees.specs.Dialect.{Dialect}
 use Rattle.opt_trees.specs.Facts.{Facts}
-use Rattle.opt_trees.specs.Sccp.{Old, fresh, rename_name, fresh_maps, IsResult, IsArgument, Gets, AreMadeConstants, constant_before, put_one, put_results, put_arguments, used_as, old_head, old_label, put, put_root, IsSccp}
-use Rattle.opt_trees.proofs.Lists.{map-map, names-map, has-map, has-from_map, option_both, none_some}
+use Rattle.opt_trees.specs.Sccp.{Old, fresh, rename_name, fresh_maps, IsResult, IsArgument, IsUsed, Gets, AreMadeConstants, constant_before, put_one, put_results, put_arguments, used_as, old_head, old_label, put, put_root, IsSccp}
+use Rattle.opt_trees.proofs.Lists.{map-map, names-map, has-map, has-from_map, has-apart, at-apart, at-to, option_both, none_some}
 use Rattle.opt_trees.proofs.Trees.{operations_renamed, blocks_renamed}
 use Rattle.opt_trees.proofs.Best.{best_unique}
 use Rattle.opt_trees.proofs.FactsRenamed.{pushed, pulled_pushed, best_pushed}
 
-module _ {N : Names} {S : Contents} {A : Type 0} (d : Dialect S A) (t : Root N S) where
+module _ {N : Names} {S : Contents} {A : Type 0} (d : Dialect S A) (w : TreeSurroundings N A) (t : Root N S) where
   -- which constants are made is decided
-  pub made_unique : (k l : Facts N A) (f g : N.value → Option A) → k ≡ l → AreMadeConstants d t k f → AreMadeConstants d t l g → f ≡ g
-  made_unique k l f g e a b = λ i v. option_both (f v) (g v) (λ x h. b.all v x (subst (λ z. Gets d t z v x) e (a.gets v x h))) (λ x h. a.all v x (subst (λ z. Gets d t z v x) (sym e) (b.gets v x h))) i
+  pub made_unique : (k l : Facts N A) (f g : N.value → Option A) → k ≡ l → AreMadeConstants d w t k f → AreMadeConstants d w t l g → f ≡ g
+  made_unique k l f g e a b = λ i v. option_both (f v) (g v) (λ x h. b.all v x (subst (λ z. Gets d w t z v x) e (a.gets v x h))) (λ x h. a.all v x (subst (λ z. Gets d w t z v x) (sym e) (b.gets v x h))) i
 
-  pub sccp_unique : (x y : Root (fresh N) S) → IsSccp d t x → IsSccp d t y → x ≡ y
+  pub sccp_unique : (x y : Root (fresh N) S) → IsSccp d w t x → IsSccp d w t y → x ≡ y
   sccp_unique x y a b = a.is ∙ ap (λ f. put_root {N = N} d f t) (made_unique a.facts b.facts a.made b.made (best_unique d t a.facts b.facts a.best b.best) a.is_made b.is_made) ∙ sym b.is
 
 module _ {N M : Names} {S : Contents} {A : Type 0} (d : Dialect S A) (r : Renaming N M) where
@@ -86,7 +87,7 @@ module _ {N M : Names} {S : Contents} {A : Type 0} (d : Dialect S A) (r : Renami
   abbrev pub made_pushed : (N.value → Option A) → M.value → Option A
   made_pushed f w = option_of f (r.value.back w)
 
-  module _ (t : Root N S) (k : Facts N A) where
+  module _ (u : TreeSurroundings N A) (u' : TreeSurroundings M A) (says : Agree r u u') (t : Root N S) (k : Facts N A) where
     result_pushed : (v : N.value) → IsResult d t k v → IsResult d (rename_root m t) (pushed d r k) (r.value.to v)
     result_pushed v p = record {
       definer = rename_occurrence m p.definer;
@@ -105,12 +106,42 @@ module _ {N M : Names} {S : Contents} {A : Type 0} (d : Dialect S A) (r : Renami
       argument = subst (Has (r.value.to v)) (sym (names-map r.value.to p.definer.label.arguments)) (has-map r.value.to v (names_of p.definer.label.arguments) p.argument);
     }
 
-    gets_pushed : (v : N.value) (a : A) → Gets d t k v a → Gets d (rename_root m t) (pushed d r k) (r.value.to v) a
+    -- the same values are used
+    used_pushed : (v : N.value) → IsUsed u t v → IsUsed u' (rename_root m t) (r.value.to v)
+    used_pushed v p = ⊎_elim
+        (λ b. inl (
+          rename_occurrence m b.0,
+          b.1,
+          record {
+            stands = subst (Has (rename_occurrence m b.0)) (sym (operations_renamed m t)) (has-map (rename_occurrence m) b.0 (occurrences_of t) b.2.stands);
+            operand = at-to r.value b.0.head.operands b.1 v b.2.operand;
+          },
+        ))
+        (λ q. ⊎_elim (λ h. inr (inl (has-map r.value.to v t.head.operands h))) (λ e. inr (inr (says.pins v ∙ e))) q)
+        p
+
+    used_pulled : (v : N.value) → IsUsed u' (rename_root m t) (r.value.to v) → IsUsed u t v
+    used_pulled v p = ⊎_elim
+        (λ b.
+        let q = has-from_map (rename_occurrence m) b.0 (occurrences_of t) (subst (Has b.0) (operations_renamed m t) b.2.stands) in
+        inl (
+          q.it,
+          b.1,
+          record {
+            stands = q.stands;
+            operand = at-apart r.value q.it.head.operands b.1 v (ap (λ y. slice_get y.head.operands b.1) q.is ∙ b.2.operand);
+          },
+        ))
+        (λ q. ⊎_elim (λ h. inr (inl (has-apart r.value v t.head.operands h))) (λ e. inr (inr (sym (says.pins v) ∙ e))) q)
+        p
+
+    gets_pushed : (v : N.value) (a : A) → Gets d u t k v a → Gets d u' (rename_root m t) (pushed d r k) (r.value.to v) a
     gets_pushed v a p = record {
       known = ap (λ f. f.of v) (pulled_pushed d r k) ∙ p.known;
       maker = p.maker;
       made_by = p.made_by;
       place = ⊎_elim (λ x. inl (result_pushed v x)) (λ x. inr (argument_pushed v x)) p.place;
+      used = used_pushed v p.used;
     }
 
     abbrev Placed : M.value → Type 0
@@ -146,30 +177,30 @@ module _ {N M : Names} {S : Contents} {A : Type 0} (d : Dialect S A) (r : Renami
           }),
         )
 
-    made_all : (made : N.value → Option A) → AreMadeConstants d t k made → (w : M.value) (a : A) → Gets d (rename_root m t) (pushed d r k) w a → made_pushed made w ≡ Some a
+    made_all : (made : N.value → Option A) → AreMadeConstants d u t k made → (w : M.value) (a : A) → Gets d u' (rename_root m t) (pushed d r k) w a → made_pushed made w ≡ Some a
     made_all made e w a p =
         let q = ⊎_elim (result_pulled w) (argument_pulled w) p.place in
         ap (made_pushed made) (sym q.1) ∙ ap (option_of made) (r.value.there q.0)
-        ∙ e.all q.0 a (record { known = sym (ap (λ f. f.of q.0) (pulled_pushed d r k)) ∙ ap (pushed d r k).of q.1 ∙ p.known; maker = p.maker; made_by = p.made_by; place = q.2 })
+        ∙ e.all q.0 a (record { known = sym (ap (λ f. f.of q.0) (pulled_pushed d r k)) ∙ ap (pushed d r k).of q.1 ∙ p.known; maker = p.maker; made_by = p.made_by; place = q.2; used = used_pulled q.0 (subst (IsUsed u' (rename_root m t)) (sym q.1) p.used) })
 
-    made_gets : (made : N.value → Option A) → AreMadeConstants d t k made → (w : M.value) (a : A) → made_pushed made w ≡ Some a → Gets d (rename_root m t) (pushed d r k) w a
+    made_gets : (made : N.value → Option A) → AreMadeConstants d u t k made → (w : M.value) (a : A) → made_pushed made w ≡ Some a → Gets d u' (rename_root m t) (pushed d r k) w a
     made_gets made e w a h = by_case (r.value.back w) refl
       where
-        by_case : (q : Option N.value) → r.value.back w ≡ q → Gets d (rename_root m t) (pushed d r k) w a
+        by_case : (q : Option N.value) → r.value.back w ≡ q → Gets d u' (rename_root m t) (pushed d r k) w a
         by_case None b = absurd (none_some a (sym (ap (option_of made) b) ∙ h))
-        by_case (Some v) b = subst (λ x. Gets d (rename_root m t) (pushed d r k) x a) (r.value.from w v b) (gets_pushed v a (e.gets v a (sym (ap (option_of made) b) ∙ h)))
+        by_case (Some v) b = subst (λ x. Gets d u' (rename_root m t) (pushed d r k) x a) (r.value.from w v b) (gets_pushed v a (e.gets v a (sym (ap (option_of made) b) ∙ h)))
 
   -- what sccp makes of the tree under other names is what it makes of the tree, under those names
-  pub sccp_renamed : (t : Root N S) (after : Root (fresh N) S) → IsSccp d t after → IsSccp d (rename_root m t) (rename_root fm after)
-  sccp_renamed t after p =
+  pub sccp_renamed : (u : TreeSurroundings N A) (u' : TreeSurroundings M A) → Agree r u u' → (t : Root N S) (after : Root (fresh N) S) → IsSccp d u t after → IsSccp d u' (rename_root m t) (rename_root fm after)
+  sccp_renamed u u' says t after p =
       let agree : (v : N.value) → made_pushed p.made (r.value.to v) ≡ p.made v = λ v. ap (option_of p.made) (r.value.there v) in
       record {
         facts = pushed d r p.facts;
         best = best_pushed d r t p.facts p.best;
         made = made_pushed p.made;
-        is_made = record { gets = made_gets t p.facts p.made p.is_made; all = made_all t p.facts p.made p.is_made };
+        is_made = record { gets = made_gets u u' says t p.facts p.made p.is_made; all = made_all u u' says t p.facts p.made p.is_made };
         is = ap (rename_root fm) p.is ∙ λ i. record { head = sym (head_under p.made (made_pushed p.made) agree t.head) i; regions = sym (put_under p.made (made_pushed p.made) agree t.regions) i };
       }
 
-  pub sccp_commutes : (t : Root N S) (a : Root (fresh N) S) (b : Root (fresh M) S) → IsSccp d t a → IsSccp d (rename_root m t) b → b ≡ rename_root fm a
-  sccp_commutes t a b x y = sccp_unique d (rename_root m t) b (rename_root fm a) y (sccp_renamed t a x)
+  pub sccp_commutes : (u : TreeSurroundings N A) (u' : TreeSurroundings M A) → Agree r u u' → (t : Root N S) (a : Root (fresh N) S) (b : Root (fresh M) S) → IsSccp d u t a → IsSccp d u' (rename_root m t) b → b ≡ rename_root fm a
+  sccp_commutes u u' says t a b x y = sccp_unique d u' (rename_root m t) b (rename_root fm a) y (sccp_renamed u u' says t a x)

@@ -6,7 +6,7 @@ use Rattle.ir_trees.specs.Renames.{rename_root}
 use Rattle.opt_trees.specs.Occurrences.{Renaming, maps, OperationsApart, Has, BlockOccurrence, block_occurrences_of}
 use Rattle.opt_trees.specs.Dialect.{Dialect, Lawful}
 use Rattle.opt_trees.specs.Facts.{Facts, IsMostPrecise, IsLacking}
-use Rattle.opt_trees.specs.Sccp.{fresh, fresh_maps, IsSccp, KeepsFacts, facts_after, CanTell, NamesConstants}
+use Rattle.opt_trees.specs.Sccp.{fresh, Name, fresh_maps, Gets, IsSccp, KeepsFacts, RenamesPins, facts_after, CanTell, NamesConstants}
 use Rattle.opt_trees.specs.Dce.{TreeSurroundings, Item, IsDead, IsDce, IsWell, Agree}
 use Rattle.opt_trees.specs.Simplify.{StartingRegions, rename_place, IsReached, IsVisitedSsa, IsLocal, BranchesLast, IsSimplified, LosesUse, ComesBack, IsJoined, IsCut, IsSimplify, IsOrderly, decided}
 
@@ -17,23 +17,32 @@ module _ (N : Names) (S : Contents) (A : Type 0) where
 
   -- constants are put in in one way
   abbrev pub OneSccp : Type 0
-  OneSccp = (d : Dialect S A) (t : Root N S) (a b : Root (fresh N) S) → IsSccp d t a → IsSccp d t b → a ≡ b
+  OneSccp = (d : Dialect S A) (w : TreeSurroundings N A) (t : Root N S) (a b : Root (fresh N) S) →
+      IsSccp d w t a → IsSccp d w t b → a ≡ b
 
   -- the most precise facts afterwards are those before
   abbrev pub FactsKept : Type 0
-  FactsKept = (d : Dialect S A) (t : Root N S) (after : Root (fresh N) S) (k : Facts N A) (l : Facts (fresh N) A) →
-      Lawful d → IsSccp d t after → IsMostPrecise d t k → IsMostPrecise d after l → KeepsFacts d t k l
+  FactsKept = (d : Dialect S A) (w : TreeSurroundings N A) (t : Root N S) (after : Root (fresh N) S) (k : Facts N A)
+      (l : Facts (fresh N) A) →
+      Lawful d → IsSccp d w t after → IsMostPrecise d t k → IsMostPrecise d after l → KeepsFacts d w t k l
 
   -- there are most precise facts afterwards, the old ones extended;
   -- of two attributes it must be told whether they are the same
   abbrev pub FactsExtend : Type 0
-  FactsExtend = (d : Dialect S A) (t : Root N S) (after : Root (fresh N) S) →
-      Lawful d → CanTell A → (p : IsSccp d t after) → IsMostPrecise d after (facts_after p.facts p.made)
+  FactsExtend = (d : Dialect S A) (w : TreeSurroundings N A) (t : Root N S) (after : Root (fresh N) S) →
+      Lawful d → CanTell A → (p : IsSccp d w t after) → IsMostPrecise d after (facts_after p.facts p.made)
 
   -- afterwards what is known to be a constant names one; of two values it must be told whether they are the same
   abbrev pub SccpGoal : Type 0
-  SccpGoal = (d : Dialect S A) (t : Root N S) (after : Root (fresh N) S) →
-      Lawful d → CanTell N.value → IsSccp d t after → NamesConstants d after
+  SccpGoal = (d : Dialect S A) (w : TreeSurroundings N A) (t : Root N S) (after : Root (fresh N) S) →
+      Lawful d → CanTell N.value → IsSccp d w t after → NamesConstants d after
+
+  -- a second time no value gets a constant
+  abbrev pub SccpTwice : Type 0
+  SccpTwice = (d : Dialect S A) (w : TreeSurroundings N A) (z : TreeSurroundings (fresh N) A) (t : Root N S)
+      (after : Root (fresh N) S) (l : Facts (fresh N) A) → Lawful d → (p : IsSccp d w t after) →
+      RenamesPins {N = N} p.made w z → IsMostPrecise d after l → (v : Name N.value N.value) (a : A) →
+      Gets d z after l v a → ⊥
 
   -- the dead goes in one way
   abbrev pub OneDce : Type 0
@@ -87,8 +96,9 @@ module _ (N : Names) (S : Contents) (A : Type 0) where
 
 module _ (N M : Names) (S : Contents) (A : Type 0) where
   abbrev pub SccpRenames : Type 0
-  SccpRenames = (d : Dialect S A) (r : Renaming N M) (t : Root N S) (a : Root (fresh N) S) → IsSccp d t a →
-      IsSccp d (rename_root (maps r) t) (rename_root (fresh_maps {N = N} {M = M} (maps r)) a)
+  SccpRenames = (d : Dialect S A) (r : Renaming N M) (t : Root N S) (a : Root (fresh N) S) (w : TreeSurroundings N A)
+      (w' : TreeSurroundings M A) → Agree r w w' → IsSccp d w t a →
+      IsSccp d w' (rename_root (maps r) t) (rename_root (fresh_maps {N = N} {M = M} (maps r)) a)
 
   -- the goal of sccp, too: the names that a result gets in the end don't matter
   abbrev pub ConstantsRename : Type 0
@@ -128,7 +138,8 @@ module _ {N M P : Names} {S : Contents} (f : Renaming N P) (g : Renaming M P) wh
 module _ (N M P : Names) (S : Contents) (A : Type 0) where
   abbrev pub SameSccp : Type 0
   SameSccp = (d : Dialect S A) (f : Renaming N P) (g : Renaming M P) (t : Root N S) (u : Root M S) → AreSame f g t u →
-      (a : Root (fresh N) S) (b : Root (fresh M) S) → IsSccp d t a → IsSccp d u b →
+      (v : TreeSurroundings N A) (w : TreeSurroundings M A) (z : TreeSurroundings P A) → Agree f v z → Agree g w z →
+      (a : Root (fresh N) S) (b : Root (fresh M) S) → IsSccp d v t a → IsSccp d w u b →
       rename_root (fresh_maps {N = N} {M = P} (maps f)) a ≡ rename_root (fresh_maps {N = M} {M = P} (maps g)) b
 
   abbrev pub SameDce : Type 0

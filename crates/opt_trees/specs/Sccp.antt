@@ -5,6 +5,7 @@ use Rattle.ir_trees.specs.Names.{Names, Contents}
 use Rattle.ir_trees.specs.Renames.{Maps, rename_defined, names_of}
 use Rattle.ir_trees.specs.Trees.{Defined, Head, Label, Sort, Operations, Tree, end, operation, block, region, Root}
 use Rattle.opt_trees.specs.Occurrences.{Has, Occurrence, BlockOccurrence, occurrences_of, block_occurrences_of, Use}
+use Rattle.opt_trees.specs.Dce.{TreeSurroundings}
 use Rattle.opt_trees.specs.Dialect.{Dialect}
 use Rattle.opt_rows.specs.declared.known.Known.TheVariants.{One}
 use Rattle.opt_rows.specs.Known.{FactsOf, answer}
@@ -47,13 +48,22 @@ pub record IsArgument {N : Names} {S : Contents} (t : Root N S) (runs : N.block 
   pub in_run : runs definer.label.name ≡ true
   pub argument : Has v (names_of definer.label.arguments)
 
-module _ {N : Names} {S : Contents} {A : Type 0} (d : Dialect S A) (t : Root N S) (k : Facts N A) where
+-- an operation below the root uses the value, whether it runs or not, along an edge or otherwise
+abbrev pub IsUsedBelow : {N : Names} {S : Contents} → Root N S → N.value → Type 0
+IsUsedBelow {N} {S} t v = (user : Occurrence N S) × (i : ℕ) × Use t v user i
+
+-- the value has a use: below the root, at the root, or outside it
+abbrev pub IsUsed : {N : Names} {S : Contents} {A : Type 0} → TreeSurroundings N A → Root N S → N.value → Type 0
+IsUsed w t v = IsUsedBelow t v ⊎ (Has v t.head.operands ⊎ (w.is_pinned v ≡ true))
+
+module _ {N : Names} {S : Contents} {A : Type 0} (d : Dialect S A) (w : TreeSurroundings N A) (t : Root N S) (k : Facts N A) where
   -- the value gets the constant of this attribute
   pub record Gets (v : N.value) (a : A) : Type 0 where
     pub known : k.of v ≡ One a
     pub maker : S.of_operation
     pub made_by : d.constant a ≡ Some maker
     pub place : IsResult d t k v ⊎ IsArgument t k.runs v
+    pub used : IsUsed w t v
 
   -- which values get constants, and which
   pub record AreMadeConstants (made : N.value → Option A) : Type 0 where
@@ -121,20 +131,26 @@ module _ {N : Names} {S : Contents} {A : Type 0} (d : Dialect S A) (made : N.val
   abbrev pub put_root : Root N S → Root (fresh N) S
   put_root t = record { head = old_head {N = N} made t.head; regions = put t.regions }
 
-module _ {N : Names} {S : Contents} {A : Type 0} (d : Dialect S A) where
+module _ {N : Names} {S : Contents} {A : Type 0} (d : Dialect S A) (w : TreeSurroundings N A) where
   -- the pass; uses outside the root are renamed by used_as
   pub record IsSccp (t : Root N S) (after : Root (fresh N) S) : Type 0 where
     pub facts : Facts N A
     pub best : IsMostPrecise d t facts
     pub made : N.value → Option A
-    pub is_made : AreMadeConstants d t facts made
+    pub is_made : AreMadeConstants d w t facts made
     pub is : after ≡ put_root {N = N} d made t
 
   -- of what stood there as much is known as before, and a new value is known to be its constant
   pub record KeepsFacts (t : Root N S) (k : Facts N A) (l : Facts (fresh N) A) : Type 0 where
     pub runs : (b : N.block) → l.runs b ≡ k.runs b
     pub of : (v : N.value) → l.of (Old v) ≡ k.of v
-    pub made : (v : N.value) (a : A) → Gets d t k v a → l.of (New v) ≡ One a
+    pub made : (v : N.value) (a : A) → Gets d w t k v a → l.of (New v) ≡ One a
+
+-- afterwards something outside the root names what stands for a value that something outside named before
+abbrev pub RenamesPins : {N : Names} {A : Type 0} → (N.value → Option A) → TreeSurroundings N A →
+    TreeSurroundings (fresh N) A → Type 0
+RenamesPins {N} made w z = (x : Name N.value N.value) → z.is_pinned x ≡ true →
+    (v : N.value) × (w.is_pinned v ≡ true) × (used_as v (made v) ≡ x)
 
 -- what is known afterwards: the old facts of what stood there, and of a new value its constant
 

@@ -1,5 +1,5 @@
 //! Laws of the three optimisations on trees.
-ghost use Rattle.opt_trees.specs.Laws.{OneBest, OneSccp, FactsExtend, FactsKept, SccpGoal, SccpRenames, ConstantsRename};
+ghost use Rattle.opt_trees.specs.Laws.{OneBest, OneSccp, FactsExtend, FactsKept, SccpGoal, SccpTwice, SccpRenames, ConstantsRename};
 ghost use Rattle.opt_trees.specs.Laws.{OneDce, DceGoal, DceTwice, DceRenames, SameSccp, SameDce, SameSimplify};
 ghost use Rattle.opt_trees.specs.Laws.{OneSimplify, SimplifyRenames, CutOrderly, CutLocal, CutLast, CutGoal, SimplifyGoal};
 ghost use Rattle.opt_trees.specs.Laws.{BackRefuses, LackingRenames, LosesRenames, BackRenames};
@@ -25,6 +25,11 @@ pub fn facts_kept<O, B, V, C, D, T, A>()
 /// With constants put in, each operand that is known to be a constant that can be made names the result of one.
 pub fn sccp_goal<O, B, V, C, D, T, A>()
     ensures { SccpGoal (named O B V) (holding C D T) A }
+{}
+
+/// With constants put in, a second time no value gets one.
+pub fn sccp_twice<O, B, V, C, D, T, A>()
+    ensures { SccpTwice (named O B V) (holding C D T) A }
 {}
 
 /// Under other names that stay apart, what is made of a tree is the same, under those names.

@@ -196,3 +196,4 @@ spelt_leaf leaves.Number cs h = subst IsSpelled (sym (is_number cs).2) tt
 spelt_leaf leaves.Digits cs h = tt
 spelt_leaf leaves.Width cs h = subst IsSpelled (sym (is_width cs).2) tt
 spelt_leaf leaves.Text cs h = tt
+spelt_leaf leaves.Mark cs h = tt

@@ -2,7 +2,7 @@
 use Rattle.std.specs.Prelude.{◌≡◌, List, [], ◌∷◌, Option, None, true}
 use Rattle.ir_base.specs.declared.types.TypeHandle.{TypeHandle}
 use Rattle.ir_names.specs.Text.{is_identifier}
-use Rattle.ir_print.specs.Pieces.{Leaf, name, number, unsigned, width, quoted}
+use Rattle.ir_print.specs.Pieces.{Leaf, name, number, unsigned, width, quoted, mark}
 use Rattle.ir_program.specs.declared.handles.Ptr.{Ptr}
 use Rattle.ir_program.specs.declared.handles.BasicBlock.{BasicBlock}
 use Rattle.ir_print.specs.declared.format.Part.{Part}
@@ -17,6 +17,7 @@ IsSpelled (number negative magnitude) = Unit {0}
 IsSpelled (unsigned magnitude) = Unit {0}
 IsSpelled (width sign bits) = Unit {0}
 IsSpelled (quoted cs) = Unit {0}
+IsSpelled (mark n) = Unit {0}
 
 -- the types among parts
 abbrev pub types_in : {D K A T : Type 0} → List (Part D K A T) → List TypeHandle

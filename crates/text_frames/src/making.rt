@@ -14,7 +14,7 @@ ghost use Rattle.ir_types.specs.Interned.{KeepsTypes};
 ghost use Rattle.text_dialect.specs.declared.dialect.MakeFault.TheVariants.{Refused};
 ghost use Rattle.text_frames.specs.Makes.{IsSpelled, types_in};
 
-use crate::source::{number_of, string_of, unsigned_of, width_of};
+use crate::source::{mark_of, number_of, string_of, unsigned_of, width_of};
 use ir_characters::Text;
 use ir_context::Context;
 use ir_names::{Identifier, IdentifierError, InvalidIdentifier, TypeHandle};
@@ -140,6 +140,7 @@ pub fn leaf_of(alloc: Global, sort: LeafSort, text: Text) -> Result<Option<LeafV
             Ok(Some(LeafValue::Width(signedness, width)))
         }
         LeafSort::Text => Ok(Some(LeafValue::Text(string_of(alloc, text)?))),
+        LeafSort::Mark => Ok(Some(LeafValue::Mark(mark_of(text)))),
     }
 }
 

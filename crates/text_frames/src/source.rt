@@ -97,6 +97,13 @@ pub fn unsigned_of(text: Text) -> Option<u64>
     digits_value(text, 0)
 }
 
+/// What a mark says: the number behind its `!`.
+pub fn mark_of(text: Text) -> Option<u64>
+    ensures { AreDigitsOf result (digits (drop 1 (codes_of text.entry))) }
+{
+    digits_value(text, 1)
+}
+
 /// The number of bits that the decimal digits from this place to the end say, if it is below 2^32.
 fn bits_of(text: Text, from: usize) -> Option<u32>
     ensures { IsWidth result (digits (drop from (codes_of text.entry))) }

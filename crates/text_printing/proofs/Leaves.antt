@@ -9,9 +9,9 @@ use Rattle.ir_print.specs.declared.format.LeafValue.TheVariants as read
 use Rattle.ir_print.specs.declared.format.Number.{Number}
 use Rattle.ir_print.specs.Formats as step
 use Rattle.ir_print.specs.Formats.{Step}
-use Rattle.ir_print.specs.Layout.{Chunk, token, quotation, in_quotes, spell, leaf_on, number_text, width_text}
-use Rattle.ir_print.specs.Pieces.{name, number, unsigned, width, quoted}
-use Rattle.text_printing.specs.Printing.{AddsText, AddsLeaf, AddsNumber, AddsUnsigned, AddsWidth, sign_of}
+use Rattle.ir_print.specs.Layout.{Chunk, token, quotation, in_quotes, spell, leaf_on, number_text, width_text, mark_text}
+use Rattle.ir_print.specs.Pieces.{name, number, unsigned, width, quoted, mark}
+use Rattle.text_printing.specs.Printing.{AddsText, AddsLeaf, AddsMark, AddsNumber, AddsUnsigned, AddsWidth, sign_of}
 use Rattle.text_printing.proofs.Owed.{wrote}
 
 spelled : (s : Step) (c : Chunk) (rest : List Chunk) → spell (leaf_on s c rest) ≡ sign_of s ++ spell (c ∷ rest)
@@ -33,6 +33,7 @@ module _ (s : Step) (old mid new : List ℕ) (sign : mid ≡ old ++ sign_of s) w
   number_added o e (unsigned magnitude) rest h k = absurd h
   number_added o e (width shown bits) rest h k = absurd h
   number_added o e (quoted cs) rest h k = absurd h
+  number_added o e (mark n) rest h k = absurd h
 
   pub number_printed : (l : LeafValue) (o : Option Number) → l ≡ read.Number o → AddsNumber o mid new → AddsLeaf s l old new
   number_printed l o q e = subst (λ k. AddsLeaf s k old new) (sym q) (number_added o e)
@@ -43,6 +44,7 @@ module _ (s : Step) (old mid new : List ℕ) (sign : mid ≡ old ++ sign_of s) w
   unsigned_added o e (number negative magnitude) rest h k = absurd h
   unsigned_added o e (width shown bits) rest h k = absurd h
   unsigned_added o e (quoted cs) rest h k = absurd h
+  unsigned_added o e (mark n) rest h k = absurd h
 
   pub unsigned_printed : (l : LeafValue) (o : Option ℕ) → l ≡ read.Digits o → AddsUnsigned o mid new → AddsLeaf s l old new
   unsigned_printed l o q e = subst (λ k. AddsLeaf s k old new) (sym q) (unsigned_added o e)
@@ -54,6 +56,7 @@ module _ (s : Step) (old mid new : List ℕ) (sign : mid ≡ old ++ sign_of s) w
   width_added made o e (unsigned magnitude) rest h k = absurd h
   width_added made o e (number negative magnitude) rest h k = absurd h
   width_added made o e (quoted cs) rest h k = absurd h
+  width_added made o e (mark n) rest h k = absurd h
 
   pub width_printed : (l : LeafValue) (made : Signedness) (o : Option ℕ) → l ≡ read.Width made o → AddsWidth made o mid new → AddsLeaf s l old new
   width_printed l made o q e = subst (λ k. AddsLeaf s k old new) (sym q) (width_added made o e)
@@ -64,6 +67,18 @@ module _ (s : Step) (old mid new : List ℕ) (sign : mid ≡ old ++ sign_of s) w
   quoted_added string e (unsigned magnitude) rest h k = absurd h
   quoted_added string e (number negative magnitude) rest h k = absurd h
   quoted_added string e (width shown bits) rest h k = absurd h
+  quoted_added string e (mark n) rest h k = absurd h
 
   pub quoted_printed : (l : LeafValue) (string : String Global) → l ≡ read.Text string → new ≡ mid ++ encode_utf8_all (in_quotes (chars (string_bytes string))) → AddsLeaf s l old new
   quoted_printed l string q e = subst (λ k. AddsLeaf s k old new) (sym q) (quoted_added string e)
+
+  mark_added : (o : Option ℕ) → AddsMark o mid new → AddsLeaf s (read.Mark o) old new
+  mark_added o e (mark n) rest h k = text_added (mark_text n) rest (e n h k)
+  mark_added o e (name cs) rest h k = absurd h
+  mark_added o e (number negative magnitude) rest h k = absurd h
+  mark_added o e (unsigned magnitude) rest h k = absurd h
+  mark_added o e (width shown bits) rest h k = absurd h
+  mark_added o e (quoted cs) rest h k = absurd h
+
+  pub mark_printed : (l : LeafValue) (o : Option ℕ) → l ≡ read.Mark o → AddsMark o mid new → AddsLeaf s l old new
+  mark_printed l o q e = subst (λ k. AddsLeaf s k old new) (sym q) (mark_added o e)

@@ -5,7 +5,7 @@ use Rattle.ir_names.specs.Tree.{node, no_tree, a_tree}
 use Rattle.ir_names.specs.declared.kinds.Signedness.{Signedness}
 use Rattle.ir_print.specs.declared.format.Number.{Number}
 use Rattle.ir_print.specs.Formats.{Step, symbol_name}
-use Rattle.ir_print.specs.Layout.{Chunk, spell, line, Before, an_id, a_word, a_part, Deeper, leaf_on, leaf_chunk, number_text, width_text}
+use Rattle.ir_print.specs.Layout.{Chunk, spell, line, Before, an_id, a_word, a_part, Deeper, leaf_on, leaf_chunk, number_text, width_text, mark_text}
 use Rattle.ir_print.specs.Pieces.{value_of_kind, list, item, chosen, operands, successor, region, leaf, Leaf, ValueTree, Pieces}
 use Rattle.ir_print.specs.Shown.{AreDigitsOf, IsNumber, IsWidth, IsLeaf}
 use Rattle.ir_print.specs.Shapes.{IsInRange}
@@ -37,6 +37,10 @@ AddsNumber n old new =
 -- a number without a sign was written, where 64 bits hold it
 abbrev pub AddsUnsigned : Option ℕ → (old new : List ℕ) → Type 0
 AddsUnsigned n old new = (magnitude : ℕ) → AreDigitsOf n magnitude → magnitude < 2 ^ 64 → new ≡ old ++ decimal magnitude
+
+-- a mark was written, where 64 bits hold its number
+abbrev pub AddsMark : Option ℕ → (old new : List ℕ) → Type 0
+AddsMark o old new = (n : ℕ) → AreDigitsOf o n → n < 2 ^ 64 → new ≡ old ++ mark_text n
 
 -- a width was written, where 32 bits hold it
 abbrev pub AddsWidth : Signedness → Option ℕ → (old new : List ℕ) → Type 0

@@ -4,7 +4,7 @@ ghost use Rattle.std.specs.String.{string_bytes};
 ghost use Rattle.ir_print.specs.Formats.{step_of};
 ghost use Rattle.ir_print.specs.Layout.{escaped, in_quotes, line, gap_of_word, gap_of_part};
 ghost use Rattle.text_dialect.specs.Printed.{value_name};
-ghost use Rattle.text_printing.specs.Printing.{before_of, sign_of, AddsLeaf, AddsNumber, AddsUnsigned, AddsWidth};
+ghost use Rattle.text_printing.specs.Printing.{before_of, sign_of, AddsLeaf, AddsMark, AddsNumber, AddsUnsigned, AddsWidth};
 
 use ir_names::Signedness;
 use ir_print::{Directive, LeafValue, Number};
@@ -70,6 +70,17 @@ fn print_unsigned(out: &mut String, number: Option<u64>) -> Result<(), AllocErro
     let Some(number) = number else {
         return Ok(());
     };
+    print_digits(out, number)
+}
+
+/// A mark, whose number 64 bits hold.
+fn print_mark(out: &mut String, number: Option<u64>) -> Result<(), AllocError>
+    ensures { OnOk result (AddsMark number (string_bytes out.old) (string_bytes out.new)) }
+{
+    let Some(number) = number else {
+        return Ok(());
+    };
+    out.push_str("!")?;
     print_digits(out, number)
 }
 
@@ -173,5 +184,6 @@ pub(crate) fn print_leaf(
         LeafValue::Digits(number) => print_unsigned(out, *number),
         LeafValue::Width(signedness, width) => print_width(out, *signedness, *width),
         LeafValue::Text(text) => print_text(out, text.as_str()),
+        LeafValue::Mark(number) => print_mark(out, *number),
     }
 }

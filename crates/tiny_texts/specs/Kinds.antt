@@ -5,6 +5,10 @@ use Rattle.ir_names.specs.declared.interfaces.OpInterface.TheVariants as interfa
 use Rattle.tiny_texts.specs.declared.dialect.TinyOp.{TinyOp}
 use Rattle.tiny_texts.specs.declared.dialect.TinyOp.TheVariants as ops
 use Rattle.tiny_texts.specs.declared.dialect.Single.{Single}
+use Rattle.tiny_texts.specs.declared.dialect.TinyAttr.{TinyAttr}
+use Rattle.tiny_texts.specs.declared.dialect.TinyAttr.TheVariants as attrs
+use Rattle.tiny_texts.specs.declared.dialect.Constant.{Constant}
+use Rattle.tiny_texts.specs.declared.dialect.Constant.TheVariants as constants
 
 -- the names of kinds of operations: no two have the same sum of characters
 abbrev pub op_name : TinyOp → List ℕ
@@ -24,8 +28,18 @@ op_names kind = (codes "t", op_name kind)
 abbrev pub type_names : Single → List ℕ × List ℕ
 type_names kind = (codes "t", codes "int")
 
-abbrev pub attr_names : Single → List ℕ × List ℕ
-attr_names kind = (codes "t", codes "num")
+-- the names of kinds of attributes
+abbrev pub attr_name : TinyAttr → List ℕ
+attr_name attrs.Num = codes "num"
+attr_name attrs.Ref = codes "ref"
+
+abbrev pub attr_names : TinyAttr → List ℕ × List ℕ
+attr_names kind = (codes "t", attr_name kind)
+
+-- the kind of an attribute
+abbrev pub kind_of : Constant → TinyAttr
+kind_of (constants.Num n) = attrs.Num
+kind_of (constants.Ref n) = attrs.Ref
 
 -- boxes are isolated, and edges and returns end blocks
 abbrev pub op_has : TinyOp → OpInterface → Bool

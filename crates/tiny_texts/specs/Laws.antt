@@ -6,10 +6,16 @@ use Rattle.ir_names.specs.Interfaces.{ImplementsParents}
 use Rattle.ir_names.specs.declared.interfaces.OpInterface.TheVariants as interface
 use Rattle.tiny_texts.specs.contracts.dialect.SinglePartialEq.TheImpl as of_singles
 use Rattle.tiny_texts.specs.contracts.dialect.TinyOpPartialEq.TheImpl as of_ops
+use Rattle.tiny_texts.specs.contracts.dialect.TinyAttrPartialEq.TheImpl as of_attr_kinds
+use Rattle.tiny_texts.specs.contracts.dialect.ConstantPartialEq.TheImpl as of_constants
+use Rattle.tiny_texts.specs.declared.dialect.Constant.{Constant}
+use Rattle.tiny_texts.specs.declared.dialect.Constant.TheVariants as constants
 use Rattle.tiny_texts.specs.declared.dialect.Single.{Single}
+use Rattle.tiny_texts.specs.declared.dialect.TinyAttr.{TinyAttr}
+use Rattle.tiny_texts.specs.declared.dialect.TinyAttr.TheVariants as attrs
 use Rattle.tiny_texts.specs.declared.dialect.TinyOp.{TinyOp}
 use Rattle.tiny_texts.specs.declared.dialect.TinyOp.TheVariants as ops
-use Rattle.tiny_texts.specs.Kinds.{op_name, op_names, type_names, attr_names, op_has}
+use Rattle.tiny_texts.specs.Kinds.{op_name, op_names, type_names, attr_name, attr_names, kind_of, op_has}
 
 -- kinds have one id exactly where they are equal
 pub op_ids : (x y : TinyOp) → (op_names x ≡ op_names y) ↔ (of_ops.eq-value.it x y ≡ true)
@@ -26,8 +32,16 @@ op_ids x y = (λ e. absurd (true≢false (ap (λ names. nat_eq (sum (op_name x))
 pub type_ids : (x y : Single) → (type_names x ≡ type_names y) ↔ (of_singles.eq-value.it x y ≡ true)
 type_ids x y = (λ _. refl, λ _. refl)
 
-pub attr_ids : (x y : Single) → (attr_names x ≡ attr_names y) ↔ (of_singles.eq-value.it x y ≡ true)
-attr_ids x y = (λ _. refl, λ _. refl)
+pub attr_ids : (x y : TinyAttr) → (attr_names x ≡ attr_names y) ↔ (of_attr_kinds.eq-value.it x y ≡ true)
+attr_ids attrs.Num attrs.Num = (λ _. refl, λ _. refl)
+attr_ids attrs.Ref attrs.Ref = (λ _. refl, λ _. refl)
+attr_ids x y = (λ e. absurd (true≢false (ap (λ names. nat_eq (sum (attr_name x)) (sum names.1)) e)), λ e. absurd (false≢true e))
+
+-- equal attributes are of one kind
+pub same_attr_kind : (x y : Constant) → of_constants.eq-value.it x y ≡ true → kind_of x ≡ kind_of y
+same_attr_kind (constants.Num m) (constants.Num n) e = refl
+same_attr_kind (constants.Ref m) (constants.Ref n) e = refl
+same_attr_kind x y e = absurd (false≢true e)
 
 -- what implements an interface implements those that it stands on
 pub op_parents : (kind : TinyOp) → ImplementsParents (op_has kind)

@@ -4,38 +4,40 @@ use Rattle.std.proofs.Common.{sym, ap, ◌∙◌, subst, arith}
 use Rattle.std.proofs.lemmas.Bool.Decides.{nat_tests}
 use Rattle.std.proofs.lemmas.Option.{none-some, same_Some, some_pair_parts}
 use Rattle.ir_names.specs.Tree.{LabelledTree, Trees, node, no_tree, a_tree, label_of}
-use Rattle.ir_print.specs.Pieces.{Leaf, Piece, value_of_kind, list, item, chosen, operands, successor, region, leaf, name, number, unsigned, width, quoted, ValueTree, Pieces}
+use Rattle.ir_print.specs.Pieces.{Leaf, Piece, value_of_kind, list, item, chosen, operands, successor, region, leaf, name, number, unsigned, width, quoted, mark, ValueTree, Pieces}
 use Rattle.ir_print.specs.declared.format.LeafValue.{LeafValue}
 use Rattle.ir_print.specs.declared.format.LeafValue.TheVariants as read
 use Rattle.ir_print.specs.declared.format.Part.{Part}
 use Rattle.ir_print.specs.declared.format.ValueSort.TheVariants as sorts
 use Rattle.ir_print.specs.Shown.{Said, said_attribute, said_operands, said_successor, said_region, said_leaf, alone, AreDigitsOf, IsLeaf, Shows, ShowsAll, ShowsPart, ShowsParts}
 use Rattle.tiny_texts.specs.declared.dialect.Int.{Int}
-use Rattle.tiny_texts.specs.declared.dialect.Num.{Num}
+use Rattle.tiny_texts.specs.declared.dialect.Constant.{Constant}
 use Rattle.tiny_texts.specs.declared.dialect.TinyOp.{TinyOp}
 use Rattle.tiny_texts.specs.Making.{piece_of, piece_of_leaf, one_part}
-use Rattle.tiny_texts.specs.Says.{says, one, only, said_of_attribute, used, is_used, one_piece}
+use Rattle.tiny_texts.specs.Forms.{attr_number}
+use Rattle.tiny_texts.specs.Kinds.{kind_of}
+use Rattle.tiny_texts.specs.Says.{says, one, only, magnitude, leaf_of, said_of_attribute, used, is_used, one_piece}
 
 -- what is said where a test holds
 pub only_if : {X : Type 0} (b : Bool) (s : Option X) (x : X) → only b s ≡ Some x → (b ≡ true) × (s ≡ Some x)
 only_if true s x e = (refl, e)
 only_if false s x e = absurd (none-some x e)
 
--- a number says itself
-pub number_says : (a : Num) (n : ℕ) (us : Trees (Said Num)) → said_of_attribute a ≡ Some (n, us) →
-    (nat_lt a.0 (2 ^ 64) ≡ true) × (0 ≡ n) × (one (alone (said_leaf (unsigned a.0))) ≡ us)
-number_says a n us e =
-    let said = only_if (nat_lt a.0 (2 ^ 64)) (Some (0, one (alone (said_leaf (unsigned a.0))))) (n, us) e in
-    let same = some_pair_parts 0 n (one (alone (said_leaf (unsigned a.0)))) us said.1 in
+-- an attribute says itself
+pub attribute_says : (a : Constant) (n : ℕ) (us : Trees (Said Constant)) → said_of_attribute a ≡ Some (n, us) →
+    (nat_lt (magnitude a) (2 ^ 64) ≡ true) × (attr_number (kind_of a) ≡ n) × (one (alone (said_leaf (leaf_of a))) ≡ us)
+attribute_says a n us e =
+    let said = only_if (nat_lt (magnitude a) (2 ^ 64)) (Some (attr_number (kind_of a), one (alone (said_leaf (leaf_of a))))) (n, us) e in
+    let same = some_pair_parts (attr_number (kind_of a)) n (one (alone (said_leaf (leaf_of a)))) us said.1 in
     (said.0, same.0, same.1)
 
--- the attribute with the number 0 is one that the dialect has
-attribute_used : (n : ℕ) → 0 ≡ n → Some (value_of_kind sorts.Attribute 0) ≡ used (value_of_kind sorts.Attribute n)
-attribute_used n e = ap (λ (k : ℕ). used (value_of_kind sorts.Attribute k)) e
+-- the dialect has attributes
+attribute_used : (k n : ℕ) → k ≡ n → Some (value_of_kind sorts.Attribute k) ≡ used (value_of_kind sorts.Attribute n)
+attribute_used k n e = ap (λ (i : ℕ). used (value_of_kind sorts.Attribute i)) e
 
 -- the piece that shows what is said, if the dialect has such pieces
-abbrev pub said_piece : Said Num → Option Piece
-said_piece (said_attribute a) = Some (value_of_kind sorts.Attribute 0)
+abbrev pub said_piece : Said Constant → Option Piece
+said_piece (said_attribute a) = Some (value_of_kind sorts.Attribute (attr_number (kind_of a)))
 said_piece (said_operands n) = Some (operands n)
 said_piece (said_successor n) = Some (successor n)
 said_piece said_region = Some region
@@ -44,9 +46,9 @@ said_piece said = None
 
 module _ (types : List Int) where
   -- what is said is the piece that it is shown by
-  heard : (x : LabelledTree (Said Num)) (t : ValueTree) → Shows says types x t → said_piece (label_of x) ≡ used (label_of t)
+  heard : (x : LabelledTree (Said Constant)) (t : ValueTree) → Shows says types x t → said_piece (label_of x) ≡ used (label_of t)
   heard x (node (value_of_kind sorts.«Type» n) ts) h = ap (λ y. said_piece (label_of y)) h.3
-  heard x (node (value_of_kind sorts.Attribute n) ts) h = ap (λ y. said_piece (label_of y)) h.2 ∙ attribute_used n (number_says h.0 n h.1 h.3).1
+  heard x (node (value_of_kind sorts.Attribute n) ts) h = ap (λ y. said_piece (label_of y)) h.2 ∙ attribute_used (attr_number (kind_of h.0)) n (attribute_says h.0 n h.1 h.3).1
   heard x (node list ts) h = ap (λ y. said_piece (label_of y)) h.1
   heard x (node item ts) h = ap (λ y. said_piece (label_of y)) h.1
   heard x (node (chosen n) ts) h = ap (λ y. said_piece (label_of y)) h.1
@@ -60,7 +62,7 @@ module _ (types : List Int) where
   labelled (node q ts) p e = (ts, ap (λ (r : Piece). node r ts) (same_Some q p (only_if (is_used q) (Some q) p e).1))
 
   -- the one thing that is said is shown by one piece
-  pub one_heard : (x : Said Num) (p : Piece) (ps : Pieces) → said_piece x ≡ Some p → ShowsAll says types (one (alone x)) ps →
+  pub one_heard : (x : Said Constant) (p : Piece) (ps : Pieces) → said_piece x ≡ Some p → ShowsAll says types (one (alone x)) ps →
       (ts : Pieces) × (ps ≡ one (node p ts)) × Shows says types (alone x) (node p ts)
   one_heard x p no_tree e h = absurd h
   one_heard x p (a_tree t no_tree) e h =
@@ -74,11 +76,22 @@ module _ (types : List Int) where
 
 -- ---- parts
 
+-- the attribute that is said, or this one
+abbrev attribute_in : Constant → Said Constant → Constant
+attribute_in a (said_attribute b) = b
+attribute_in a said = a
+
 -- a number is as many bits
 digits_read : (o : Option ℕ) (m : ℕ) → AreDigitsOf o m → piece_of_leaf (read.Digits o) ≡ used (leaf (unsigned m))
 digits_read (Some n) m h = ap (λ (k : ℕ). used (leaf (unsigned k))) h
 digits_read None m h =
     let great : nat_lt m (2 ^ 64) ≡ false = grind (arith, nat_tests) in ap (λ (b : Bool). only b (Some (leaf (unsigned m)))) (sym great)
+
+-- a mark is as many bits
+mark_read : (o : Option ℕ) (m : ℕ) → AreDigitsOf o m → piece_of_leaf (read.Mark o) ≡ used (leaf (mark m))
+mark_read (Some n) m h = ap (λ (k : ℕ). used (leaf (mark k))) h
+mark_read None m h =
+    let great : nat_lt m (2 ^ 64) ≡ false = grind (arith, nat_tests) in ap (λ (b : Bool). only b (Some (leaf (mark m)))) (sym great)
 
 leaf_read : (v : LeafValue) (l : Leaf) → IsLeaf v l → piece_of_leaf v ≡ used (leaf l)
 leaf_read (read.Name id) (name cs) h = refl
@@ -91,11 +104,17 @@ leaf_read (read.Width s o) (width sign bits) h = refl
 leaf_read (read.Width s o) l h = absurd h
 leaf_read (read.Text s) (quoted cs) h = refl
 leaf_read (read.Text s) l h = absurd h
+leaf_read (read.Mark o) (mark m) h = mark_read o m h
+leaf_read (read.Mark o) l h = absurd h
 
 module _ {D : Type 0} (types : List Int) where
-  part_read : (p : Part D TinyOp Num Int) (t : ValueTree) → ShowsPart says types p t → piece_of p ≡ used (label_of t)
+  part_read : (p : Part D TinyOp Constant Int) (t : ValueTree) → ShowsPart says types p t → piece_of p ≡ used (label_of t)
   part_read p (node (value_of_kind sorts.«Type» n) ts) h = ap piece_of h.1
-  part_read p (node (value_of_kind sorts.Attribute n) ts) h = ap piece_of h.1 ∙ attribute_used n (number_says h.2.0 n h.2.1 h.2.3).1
+  part_read p (node (value_of_kind sorts.Attribute n) ts) h =
+      let same : h.0 ≡ h.2.0 = ap (λ y. attribute_in h.0 (label_of y)) h.2.2 in
+      ap piece_of h.1
+      ∙ (ap (λ (a : Constant). Some (value_of_kind sorts.Attribute (attr_number (kind_of a)))) same
+      ∙ attribute_used (attr_number (kind_of h.2.0)) n (attribute_says h.2.0 n h.2.1 h.2.3).1)
   part_read p (node list ts) h = ap piece_of h.1
   part_read p (node item ts) h = absurd h
   part_read p (node (chosen n) ts) h = ap piece_of h.1
@@ -105,7 +124,7 @@ module _ {D : Type 0} (types : List Int) where
   part_read p (node (leaf l) ts) h = ap piece_of h.1 ∙ leaf_read h.0 l h.2
 
   -- the one part is the one piece
-  pub parts_read : (ps : List (Part D TinyOp Num Int)) (ts : Pieces) → ShowsParts says types ps ts → one_part ps ≡ one_piece ts
+  pub parts_read : (ps : List (Part D TinyOp Constant Int)) (ts : Pieces) → ShowsParts says types ps ts → one_part ps ≡ one_piece ts
   parts_read [] no_tree h = refl
   parts_read [] (a_tree t ts) h = absurd h
   parts_read (p ∷ ps) no_tree h = absurd h

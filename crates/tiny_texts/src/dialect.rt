@@ -35,26 +35,38 @@ pub enum TinyOp {
 #[derive(Clone, Copy, Debug, PartialEq, Eq, Hash)]
 pub struct Int;
 
-/// An attribute: a number.
-#[derive(Clone, Copy, Debug, PartialEq, Eq, Hash)]
-pub struct Num(pub u64);
+/// The kinds of attributes.
+#[derive(Clone, Copy, Debug, PartialEq, Eq)]
+pub enum TinyAttr {
+    Num,
+    Ref,
+}
 
-/// What there is one of: a kind of types, a kind of attributes, and a location.
+/// An attribute.
+#[derive(Clone, Copy, Debug, PartialEq, Eq, Hash)]
+pub enum Constant {
+    /// A number.
+    Num(u64),
+    /// A mark, by its number.
+    Ref(u64),
+}
+
+/// What there is one of: a kind of types, and a location.
 #[derive(Clone, Copy, Debug, PartialEq, Eq, Hash)]
 pub struct Single;
 
 impl Dialects for TinyText {
     type OpKind = TinyOp;
 
-    type Attr = Num;
+    type Attr = Constant;
 
     type TypeKey = Int;
 
-    fn clone_attr(_alloc: Global, attr: &Num) -> Result<Num, AllocError> {
+    fn clone_attr(_alloc: Global, attr: &Constant) -> Result<Constant, AllocError> {
         Ok(*attr)
     }
 
-    fn attr_type(_attr: &Num) -> Option<TypeHandle> {
+    fn attr_type(_attr: &Constant) -> Option<TypeHandle> {
         None
     }
 }
@@ -62,12 +74,12 @@ impl Dialects for TinyText {
 impl DialectTables for TinyText {
     ghost use Rattle.std.specs.Prelude.{false, None, codes, refl};
     ghost use Rattle.ir_names.specs.declared.interfaces.RegionKind.TheVariants.{SSACFG};
-    ghost use Rattle.tiny_texts.specs.Kinds.{op_names, type_names, attr_names, op_has};
+    ghost use Rattle.tiny_texts.specs.Kinds.{op_names, type_names, attr_names, kind_of, op_has};
     ghost use Rattle.tiny_texts.specs.Laws as laws;
 
     type TypeKind = Single;
 
-    type AttrKind = Single;
+    type AttrKind = TinyAttr;
 
     type TypeBody = Single;
 
@@ -83,7 +95,7 @@ impl DialectTables for TinyText {
 
     ghost kind_of_type = { λ _. record {} };
 
-    ghost kind_of_attr = { λ _. record {} };
+    ghost kind_of_attr = { kind_of };
 
     ghost type_of_attr = { λ _. None };
 
@@ -129,10 +141,14 @@ impl DialectTables for TinyText {
         }
     }
 
-    fn attr_id(_kind: Single) -> AttrId {
+    fn attr_id(kind: TinyAttr) -> AttrId {
+        let name = match kind {
+            TinyAttr::Num => "num",
+            TinyAttr::Ref => "ref",
+        };
         AttrId {
             dialect: DialectName::new("t"),
-            name: AttrName::new("num"),
+            name: AttrName::new(name),
         }
     }
 
@@ -140,11 +156,14 @@ impl DialectTables for TinyText {
         Single
     }
 
-    fn attr_kind(_attr: &Num) -> Single {
-        Single
+    fn attr_kind(attr: &Constant) -> TinyAttr {
+        match attr {
+            Constant::Num(_) => TinyAttr::Num,
+            Constant::Ref(_) => TinyAttr::Ref,
+        }
     }
 
-    fn type_of(_attr: &Num) -> Option<TypeHandle> {
+    fn type_of(_attr: &Constant) -> Option<TypeHandle> {
         None
     }
 
@@ -162,7 +181,7 @@ impl DialectTables for TinyText {
         false
     }
 
-    fn attr_implements(_attr: &Num, _interface: AttrInterface) -> bool {
+    fn attr_implements(_attr: &Constant, _interface: AttrInterface) -> bool {
         false
     }
 
@@ -174,7 +193,7 @@ impl DialectTables for TinyText {
         "t_names"
     }
 
-    fn names_of(_attr: &Num) -> Option<&[Option<Identifier>]> {
+    fn names_of(_attr: &Constant) -> Option<&[Option<Identifier>]> {
         None
     }
 
@@ -196,7 +215,7 @@ impl DialectTables for TinyText {
 
     ghost same_type_interfaces = { λ _ _ _ _. refl };
 
-    ghost same_attr_kind = { λ _ _ _. refl };
+    ghost same_attr_kind = { laws.same_attr_kind };
 
     ghost same_attr_type = { λ _ _ _. refl };
 

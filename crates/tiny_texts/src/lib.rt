@@ -1,4 +1,4 @@
-//! A dialect of eight kinds of operations, one type and one attribute, all of which have texts.
+//! A dialect of eight kinds of operations, one type and two kinds of attributes, all of which have texts.
 #![tactic(auto)]
 
 mod dialect;
@@ -8,6 +8,6 @@ mod operations;
 mod table;
 mod texts;
 
-pub use dialect::{Int, Num, Single, TinyOp, TinyText};
+pub use dialect::{Constant, Int, Single, TinyAttr, TinyOp, TinyText};
 pub use ending::let_go;
 pub use laws::{tiny_can_print, tiny_speaks};

@@ -12,7 +12,7 @@ ghost use Rattle.tiny_texts.specs.Forms.{form_of, read_ops};
 ghost use Rattle.tiny_texts.specs.Making.{entries_of, parts_fit, parts_of, piece_of, value_in};
 ghost use Rattle.tiny_texts.specs.Says.{is_of, says, types_in, values};
 
-use crate::dialect::{Int, Num, TinyOp, TinyText};
+use crate::dialect::{Constant, Int, TinyOp, TinyText};
 use ir_context::{Context, OperandCalls, OperationCalls};
 use ir_names::{AttributeDict, Identifier, TypeHandle};
 use ir_print::Part;
@@ -20,7 +20,7 @@ use ir_program::{Operation, Ptr};
 use std::alloc::{AllocError, Global};
 use text_dialect::{MakeFault, OperationDraft};
 
-/// The key of the number that an operation holds.
+/// The key of the attribute that an operation holds.
 const VALUE: &str = "t_value";
 
 /// What follows the name of an operation.
@@ -72,8 +72,8 @@ fn fits(form: Form, parts: &[Part<TinyText>]) -> bool
     }
 }
 
-/// The number that parts are, if they are one.
-fn value_in(parts: &[Part<TinyText>]) -> Option<Num>
+/// The attribute that parts are, if they are one.
+fn value_in(parts: &[Part<TinyText>]) -> Option<Constant>
     ensures { result ≡ value_in parts.now }
 {
     match parts {
@@ -82,8 +82,11 @@ fn value_in(parts: &[Part<TinyText>]) -> Option<Num>
     }
 }
 
-/// The attributes of an operation with this number, if it has one.
-fn attributes_of(alloc: Global, value: Option<Num>) -> Result<AttributeDict<TinyText>, AllocError>
+/// The attributes of an operation with this one, if it has one.
+fn attributes_of(
+    alloc: Global,
+    value: Option<Constant>,
+) -> Result<AttributeDict<TinyText>, AllocError>
     ensures { IfOk result (λ attributes. attributes ≡ entries_of value) }
 {
     let mut attributes = AttributeDict::new(alloc);
@@ -112,11 +115,11 @@ fn result_types_of(
     }
 }
 
-/// The parts of an operation of a form with this number, if it has one, and so many operands.
+/// The parts of an operation of a form with this attribute, if it has one, and so many operands.
 fn parts_of(
     alloc: Global,
     form: Form,
-    value: Option<Num>,
+    value: Option<Constant>,
     operands: usize,
 ) -> Result<Vec<Part<TinyText>>, AllocError>
     ensures { IfOk result (λ parts. parts.items ≡ parts_of form value operands) }
@@ -165,7 +168,7 @@ pub(crate) fn operation_parts(
     op: Ptr<Operation>,
 ) -> Result<Vec<Part<TinyText>>, AllocError>
     requires live { IsSome (operation_at ctx.now.program op) }
-    ensures { (types : List Int) → (o : SeenOperation TinyOp Num) → (n : ℕ) → (us : Trees (Said Num))
+    ensures { (types : List Int) → (o : SeenOperation TinyOp Constant) → (n : ℕ) → (us : Trees (Said Constant))
         → (ps : Pieces) → (seen ctx.now).operation op ≡ Some o
         → says.of_operation o.kind o.attributes (length o.operands) (types_of o.results) ≡ Some (n, us)
         → ShowsAll says types us ps → IfOk result (λ parts. ShowsParts says types parts.items ps) }

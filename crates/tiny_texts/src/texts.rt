@@ -1,9 +1,9 @@
 //! What reading and printing ask of the dialect.
 ghost use Rattle.std.specs.Prelude.{◌≡◌};
-ghost use Rattle.tiny_texts.specs.Making.{one_part};
+ghost use Rattle.tiny_texts.specs.Making.{constant_of, one_part};
 ghost use Rattle.tiny_texts.specs.Says.{number_in};
 
-use crate::dialect::{Int, Num, Single, TinyOp, TinyText};
+use crate::dialect::{Constant, Int, Single, TinyAttr, TinyOp, TinyText};
 use crate::operations::{Form, make_operation, operation_parts};
 use ir_context::Context;
 use ir_print::{Directive, LeafValue, Part};
@@ -21,13 +21,26 @@ const EDGE: &[Directive] = &[Directive::Successor];
 
 const NUMBER: &[Directive] = &[Directive::Digits];
 
-/// The number that parts are, if they are one.
-fn number_in(parts: &[Part<TinyText>]) -> Option<u64>
-    ensures { result ≡ number_in (one_part parts.now) }
+const MARK: &[Directive] = &[Directive::Mark];
+
+/// The number that parts are which an attribute of a kind is made of, if they are one.
+fn number_in(kind: TinyAttr, parts: &[Part<TinyText>]) -> Option<u64>
+    ensures { result ≡ number_in kind (one_part parts.now) }
 {
-    match parts {
-        [Part::Leaf(LeafValue::Digits(Some(number)))] => Some(*number),
+    match (kind, parts) {
+        (TinyAttr::Num, [Part::Leaf(LeafValue::Digits(Some(number)))]) => Some(*number),
+        (TinyAttr::Ref, [Part::Leaf(LeafValue::Mark(Some(number)))]) => Some(*number),
         _ => None,
+    }
+}
+
+/// The attribute of a kind with a number.
+fn constant_of(kind: TinyAttr, number: u64) -> Constant
+    ensures { result ≡ constant_of kind number }
+{
+    match kind {
+        TinyAttr::Num => Constant::Num(number),
+        TinyAttr::Ref => Constant::Ref(number),
     }
 }
 
@@ -41,7 +54,7 @@ impl TextDialect for TinyText {
 
     ghost type_kinds = { forms.read_single };
 
-    ghost attr_kinds = { forms.read_single };
+    ghost attr_kinds = { forms.read_attrs };
 
     ghost formats = { forms.formats };
 
@@ -76,9 +89,10 @@ impl TextDialect for TinyText {
         }
     }
 
-    fn attr_kind_at(number: usize) -> Option<Single> {
+    fn attr_kind_at(number: usize) -> Option<TinyAttr> {
         match number {
-            0 => Some(Single),
+            0 => Some(TinyAttr::Num),
+            1 => Some(TinyAttr::Ref),
             _ => None,
         }
     }
@@ -100,8 +114,11 @@ impl TextDialect for TinyText {
         "t.int"
     }
 
-    fn attr_name(_kind: Single) -> &'static str {
-        "t.num"
+    fn attr_name(kind: TinyAttr) -> &'static str {
+        match kind {
+            TinyAttr::Num => "t.num",
+            TinyAttr::Ref => "t.ref",
+        }
     }
 
     fn op_format(kind: TinyOp) -> &'static [Directive] {
@@ -118,8 +135,11 @@ impl TextDialect for TinyText {
         &[]
     }
 
-    fn attr_format(_kind: Single) -> &'static [Directive] {
-        NUMBER
+    fn attr_format(kind: TinyAttr) -> &'static [Directive] {
+        match kind {
+            TinyAttr::Num => NUMBER,
+            TinyAttr::Ref => MARK,
+        }
     }
 
     fn make_type(
@@ -137,11 +157,11 @@ impl TextDialect for TinyText {
     fn make_attr(
         _alloc: Global,
         _ctx: &mut Context<TinyText>,
-        _kind: Single,
+        kind: TinyAttr,
         parts: &[Part<TinyText>],
-    ) -> Result<Num, MakeFault> {
-        match number_in(parts) {
-            Some(number) => Ok(Num(number)),
+    ) -> Result<Constant, MakeFault> {
+        match number_in(kind, parts) {
+            Some(number) => Ok(constant_of(kind, number)),
             None => Err(MakeFault::Refused(0)),
         }
     }
@@ -166,8 +186,12 @@ impl TextDialect for TinyText {
         Ok(Vec::new(alloc))
     }
 
-    fn attr_parts(alloc: Global, attr: &Num) -> Result<Vec<Part<TinyText>>, AllocError> {
-        Ok(vec![in alloc; Part::Leaf(LeafValue::Digits(Some(attr.0)))]?)
+    fn attr_parts(alloc: Global, attr: &Constant) -> Result<Vec<Part<TinyText>>, AllocError> {
+        let leaf = match attr {
+            Constant::Num(number) => LeafValue::Digits(Some(*number)),
+            Constant::Ref(number) => LeafValue::Mark(Some(*number)),
+        };
+        Ok(vec![in alloc; Part::Leaf(leaf)]?)
     }
 
     fn operation_parts(

@@ -89,6 +89,17 @@ const EARLY_INSIDE_PRINTED: &str = "t.box \n{
     v0 = t.def t.num 1
 }";
 
+/// A mark beside a number, and the greatest one.
+const MARKS: &str = "t.box {^b(): a = t.def t.ref !3; b = t.def t.num 3;
+c = t.def t.ref !018446744073709551615}";
+
+const MARKS_PRINTED: &str = "t.box \n{
+  ^b_block1v1():
+    v0 = t.def t.ref !3;
+    v1 = t.def t.num 3;
+    v2 = t.def t.ref !18446744073709551615
+}";
+
 /// Texts, and what is printed of each.
 const TEXTS: &[(&str, &str)] = &[
     ("t.ret", "t.ret"),
@@ -98,6 +109,7 @@ const TEXTS: &[(&str, &str)] = &[
     (EARLY, EARLY_PRINTED),
     (EARLY_INSIDE, EARLY_INSIDE_PRINTED),
     (SPACED, SPACED_PRINTED),
+    (MARKS, MARKS_PRINTED),
     (REGIONS, REGIONS_PRINTED),
     (BRANCHES, BRANCHES_PRINTED),
     (BRANCHES_PRINTED, BRANCHES_AGAIN),

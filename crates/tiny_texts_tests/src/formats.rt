@@ -3,7 +3,7 @@ use ir_format_checks::{FormatSort, check_format};
 use ir_grammar::grammar::Facts;
 use std::alloc::{AllocError, Global};
 use text_dialect::{TextDialect, grammar_of, table_of};
-use tiny_texts::{Single, TinyText};
+use tiny_texts::{Single, TinyAttr, TinyText};
 
 /// Whether there is a kind of operations with this number, and its format is accepted.
 fn is_accepted(number: usize) -> bool {
@@ -43,7 +43,9 @@ fn formats_decide_each_step(rt: HostRuntime) -> Result<(), AllocError> {
         assert!(rt; is_accepted(number), "{number}");
     }
     assert!(rt; check_format(FormatSort::Type, TinyText::type_format(Single)).is_ok());
-    assert!(rt; check_format(FormatSort::Attribute, TinyText::attr_format(Single)).is_ok());
+    for kind in [TinyAttr::Num, TinyAttr::Ref] {
+        assert!(rt; check_format(FormatSort::Attribute, TinyText::attr_format(kind)).is_ok());
+    }
     assert!(rt; is_current(rt.alloc())?);
     Ok(())
 }

@@ -30,11 +30,16 @@ const UNREADABLE: &[(&str, &str)] = &[
     ("a = t.def t.int", "syntax at 1:11"),
     ("a = t.def t.num -1", "syntax at 1:17"),
     ("a = t.def t.num \"1\"", "syntax at 1:17"),
+    ("a = t.def t.num !1", "syntax at 1:17"),
+    ("a = t.def t.ref 1", "syntax at 1:17"),
+    ("a = t.def t.ref ! 1", "syntax at 1:17"),
+    ("a = t.def t.num 1 !1", "syntax at 1:19"),
 ];
 
-/// A number past 64 bits, and another number of names than of results.
+/// A number or a mark past 64 bits, and another number of names than of results.
 const MISFIT: &[(&str, &str)] = &[
     ("a = t.def t.num 18446744073709551616", "syntax at 1:17"),
+    ("a = t.def t.ref !18446744073709551616", "syntax at 1:17"),
     (
         "t.box {^b(): a, b = t.def t.num 99999999999999999999}",
         "syntax at 1:33",

@@ -6,6 +6,7 @@ ghost use Rattle.opt_chains.specs.Phases.{MergesBlocks};
 ghost use Rattle.opt_dialect.specs.declared.status.IRStatus.TheVariants.{Unchanged};
 ghost use Rattle.opt_dialect.specs.declared.status.OptError.TheVariants.{LiveUse, Memory};
 ghost use Rattle.ir_opts.specs.joining.Answers.{HasCircle, HasNoCircle, HasNoneJoinable};
+ghost use Rattle.opt_handles.specs.Handles.{KeepsHandles};
 ghost use Rattle.opt_inside.specs.reach.Edges.{FitsEdgesFrom, HasLocalEdgesFrom};
 ghost use Rattle.opt_inside.specs.reach.Starts.{IsStartIn};
 ghost use Rattle.opt_trees.specs.Simplify.{StartingRegions};
@@ -43,6 +44,7 @@ pub fn merge_chains<D: OptDialect, T: TypeTable>(
     ensures refused { IfErr result (λ e. (e ≡ Memory)
         ⊎ ((e ≡ LiveUse) × HasCircle D.meaning ctx.old.program op start)) }
     ensures kept { OnErr result (ctx.new ≡ ctx.old) }
+    ensures handles { KeepsHandles ctx.old.program ctx.new.program op }
     ensures numbers { ctx.new.program.counter ≡ ctx.old.program.counter }
     ensures types { ctx.new.types ≡ ctx.old.types }
 {

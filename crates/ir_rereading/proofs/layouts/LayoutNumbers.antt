@@ -6,7 +6,7 @@ use Rattle.std.specs.Fmt.{decimal}
 use Rattle.ir_names.specs.declared.kinds.Signedness.{Signedness}
 use Rattle.ir_names.specs.declared.kinds.Signedness.TheVariants.{Signless, Signed, Unsigned}
 use Rattle.ir_print.specs.Layout.{width_text, number_text, escaped, leaf_text}
-use Rattle.ir_print.specs.Pieces.{Leaf, name, number, unsigned, width, quoted}
+use Rattle.ir_print.specs.Pieces.{Leaf, name, number, unsigned, width, quoted, mark}
 use Rattle.ir_print.specs.Shapes.{sort_of, IsInRange}
 use Rattle.ir_formats.proofs.Booleans.{neither_holds}
 use Rattle.ir_forest.specs.Meaning.{digits_from, digits, number_in, width_in, unescaped, leaf_in}
@@ -71,3 +71,4 @@ leaf_again (number negative magnitude) h = number_again negative magnitude h
 leaf_again (unsigned magnitude) h = ap (λ n. unsigned n) (decimal_is magnitude h).0
 leaf_again (width sign bits) h = width_again sign bits h
 leaf_again (quoted cs) h = ap (λ z. quoted z) (unescaped_again cs)
+leaf_again (mark n) h = ap (λ k. mark k) (decimal_is n h).0

@@ -9,8 +9,8 @@ use Rattle.ir_names.specs.Tree.{node, no_tree, a_tree}
 use Rattle.ir_names.specs.Text.{is_identifier}
 use Rattle.ir_print.specs.Formats as step
 use Rattle.ir_print.specs.Formats.{Formats, Kind, Step, Steps, no_steps, Choices, no_choice, a_choice, alternative, kinds_of}
-use Rattle.ir_print.specs.Layout.{Before, an_id, a_word, a_part, gap_of_word, gap_of_part, line, number_text, width_text, escaped, in_quotes, spell}
-use Rattle.ir_print.specs.Pieces.{value_of_kind, list, item, chosen, operands, successor, region, Leaf, leaf, name, number, unsigned, width, quoted, ValueTree, Pieces, Values, EntityHead, operation, a_region, block, Entity, entity, Entities, no_entity, an_entity}
+use Rattle.ir_print.specs.Layout.{Before, an_id, a_word, a_part, gap_of_word, gap_of_part, line, number_text, width_text, mark_text, escaped, in_quotes, spell}
+use Rattle.ir_print.specs.Pieces.{value_of_kind, list, item, chosen, operands, successor, region, Leaf, leaf, name, number, unsigned, width, quoted, mark, ValueTree, Pieces, Values, EntityHead, operation, a_region, block, Entity, entity, Entities, no_entity, an_entity}
 use Rattle.ir_print.specs.Shapes.{parts_in, IsKnownOf, IsInRange, Fits, FitAll, FitMembers, FitsMember, FitArguments}
 use Rattle.ir_grammar.specs.declared.grammar.Action.{Action}
 use Rattle.ir_grammar.specs.declared.grammar.Action.TheVariants as act
@@ -24,7 +24,7 @@ use Rattle.ir_rereading.proofs.Alternatives.{known_along}
 use Rattle.ir_rereading.proofs.layouts.Lexemes as lexemes
 use Rattle.ir_rereading.proofs.layouts.Lexemes.{clash, ended, Lexes, placed_all, sign_low}
 use Rattle.ir_rereading.proofs.layouts.PlainWords.{word_ascii}
-use Rattle.ir_rereading.proofs.layouts.LexedWords.{Opens, Follows, IsLexeme, lexeme_text, lexeme_opens, quoted_opens, printed_ascii, sign_opens, sign_follows, blank_follows, spaces_open, identifier_is, number_is, width_is, word_is, Behind, word_opens, word_clean}
+use Rattle.ir_rereading.proofs.layouts.LexedWords.{Opens, Follows, IsLexeme, lexeme_text, lexeme_opens, quoted_opens, printed_ascii, sign_opens, sign_follows, blank_follows, spaces_open, identifier_is, number_is, mark_is, width_is, word_is, Behind, word_opens, word_clean}
 use Rattle.ir_print.specs.declared.format.ValueSort.{ValueSort}
 use Rattle.ir_print.specs.declared.format.ValueSort.TheVariants as sorts
 use Rattle.ir_formats.proofs.Booleans.{both_hold}
@@ -351,6 +351,7 @@ leaf_is (name cs) h k = let l = lexeme cs (identifier_is cs h) k in record { ope
 leaf_is (number negative magnitude) h k = let l = lexeme (number_text negative magnitude) (number_is negative magnitude h) k in record { opens = l.opens; coded = l.coded }
 leaf_is (unsigned magnitude) h k = let l = lexeme (decimal magnitude) (number_is false magnitude h) k in record { opens = l.opens; coded = l.coded }
 leaf_is (width sign bits) h k = let l = lexeme (width_text sign bits) (width_is sign bits h) k in record { opens = l.opens; coded = l.coded }
+leaf_is (mark n) h k = let l = lexeme (mark_text n) (mark_is n h) k in record { opens = l.opens; coded = l.coded }
 leaf_is (quoted cs) h k = record { opens = quoted_opens cs k.follows; coded = quoted_coded cs _ _ h k.coded }
 
 module _ (f : Formats) (v : Values) (printable : is_printable f ≡ true) where

@@ -15,11 +15,11 @@ use Rattle.std.proofs.lemmas.Bool.Decides.{nat_tests}
 use Rattle.ir_names.specs.declared.kinds.Signedness.{Signedness}
 use Rattle.ir_names.specs.declared.kinds.Signedness.TheVariants.{Signless, Signed, Unsigned}
 use Rattle.ir_names.specs.Text.{is_identifier}
-use Rattle.ir_print.specs.Layout.{width_text, number_text, in_quotes}
+use Rattle.ir_print.specs.Layout.{width_text, number_text, mark_text, in_quotes}
 use Rattle.ir_tokens.specs.Tokens.{is_letter, is_digit, is_name_char, is_sign}
 use Rattle.ir_formats.specs.Words.{is_width}
 use Rattle.ir_rereading.specs.Printable.{ends_name, is_word, less_spaces, is_before_spaces, begins_apart, ends_apart}
-use Rattle.ir_rereading.proofs.layouts.Lexemes.{falls, clash, Lexeme, Word, Dotted, Digits, Negative, Sign, Arrow, Quoted, is_plain, lexeme_ascii, text_of, is_name, are_digits, is_spelled, begins, has_front, is_fresh, is_break, is_clean, stops, is_blank, Lexes, skipped, taken}
+use Rattle.ir_rereading.proofs.layouts.Lexemes.{falls, clash, Lexeme, Word, Dotted, Digits, Negative, Marked, Sign, Arrow, Quoted, is_plain, lexeme_ascii, text_of, is_name, are_digits, is_spelled, begins, has_front, is_fresh, is_break, is_clean, stops, is_blank, Lexes, skipped, taken}
 use Rattle.ir_formats.proofs.Booleans.{both_hold}
 
 -- ---- characters and tokens, one after the other
@@ -132,6 +132,7 @@ fresh_lexeme (Word w) cs h k = fresh_word w cs (name_all w h) k
 fresh_lexeme (Dotted f b) cs h k = let s = both_hold (is_name f) (is_name b) h in fresh_word (f ++ 46 ∷ b) cs (all_both no_minus f (46 ∷ b) (name_all f s.0) (name_all b s.1)) k
 fresh_lexeme (Digits d) cs h k = fresh_word d cs (digits_all d h) k
 fresh_lexeme (Negative d) cs h k = refl
+fresh_lexeme (Marked d) cs h k = refl
 fresh_lexeme (Sign c) cs h k = fails_first (105 == c) _ (sign_no_in c h)
 fresh_lexeme Arrow cs h k = refl
 fresh_lexeme (Quoted q) cs h k = refl
@@ -141,6 +142,7 @@ stops_next (Word w) n = n.clean
 stops_next (Dotted f b) n = n.clean
 stops_next (Digits d) n = n.clean
 stops_next (Negative d) n = n.clean
+stops_next (Marked d) n = n.clean
 stops_next (Sign c) n = n.opens.fresh
 stops_next Arrow n = refl
 stops_next (Quoted q) n = n.clean
@@ -235,6 +237,10 @@ decimal_name n h = all_from is_digit is_name_char digit_in_name (decimal n) (all
 pub number_is : (negative : Bool) (n : ℕ) → n < 2 ^ 64 → IsLexeme (number_text negative n)
 number_is true n h = record { form = Negative (decimal n); same = refl; spelled = decimal_digits n h; unquoted = refl }
 number_is false n h = record { form = Digits (decimal n); same = refl; spelled = decimal_digits n h; unquoted = refl }
+
+-- and so are marks
+pub mark_is : (n : ℕ) → n < 2 ^ 64 → IsLexeme (mark_text n)
+mark_is n h = record { form = Marked (decimal n); same = refl; spelled = decimal_digits n h; unquoted = refl }
 
 -- widths are names
 pub width_is : (sign : Signedness) (n : ℕ) → n < 2 ^ 32 → IsLexeme (width_text sign n)

@@ -15,10 +15,10 @@ use Rattle.ir_tokens.specs.declared.tokens.TokenKind.TheVariants as kinds
 use Rattle.ir_tokens.specs.declared.tokens.Token as place
 use Rattle.ir_tokens.specs.Tokens.{is_letter, is_digit, is_name_char, is_sign, AreAllOfKind, IsName, AreDigits, ClosesText, IsInMemory, Spells, NoLonger, ReadsAs}
 use Rattle.ir_formats.specs.Words as words
-use Rattle.ir_rereading.proofs.layouts.Marks.{kind_of_text, has_dot, behind_minus}
+use Rattle.ir_rereading.proofs.layouts.Marks.{kind_of_text, has_dot, behind_minus, other_kind}
 use Rattle.ir_print.specs.Layout.{escaped, in_quotes}
 use Rattle.ir_tokens.specs.Tokens.ClosesText.{closing, plain, escaped as escaped_text}
-use Rattle.ir_tokens.proofs.TokenLongest.{text_longest, name_longest, dotted_longest, digits_longest, negative_longest, arrow_longest, sign_longest}
+use Rattle.ir_tokens.proofs.TokenLongest.{text_longest, name_longest, dotted_longest, digits_longest, negative_longest, mark_longest, arrow_longest, sign_longest}
 use Rattle.ir_tokens.proofs.TokenSteps.{gap_more, token_more, spells_after}
 use Rattle.ir_formats.proofs.Between.{digit_visible, sign_visible}
 use Rattle.ir_formats.proofs.Booleans.{both_hold, neither_holds}
@@ -40,6 +40,8 @@ pub data Lexeme : Type 0 where
   Dotted : (front back : List ℕ) → Lexeme
   Digits : List ℕ → Lexeme
   Negative : List ℕ → Lexeme
+  -- a mark, by its digits
+  Marked : List ℕ → Lexeme
   Sign : ℕ → Lexeme
   Arrow : Lexeme
   -- a text in quotes, by the characters that it says
@@ -51,6 +53,7 @@ text_of (Word name) = name
 text_of (Dotted front back) = front ++ 46 ∷ back
 text_of (Digits digits) = digits
 text_of (Negative digits) = 45 ∷ digits
+text_of (Marked digits) = 33 ∷ digits
 text_of (Sign c) = c ∷ []
 text_of Arrow = 45 ∷ 62 ∷ []
 text_of (Quoted cs) = in_quotes cs
@@ -71,6 +74,7 @@ is_spelled (Word name) = is_name name
 is_spelled (Dotted front back) = is_name front && is_name back
 is_spelled (Digits digits) = are_digits digits
 is_spelled (Negative digits) = are_digits digits
+is_spelled (Marked digits) = are_digits digits
 is_spelled (Sign c) = is_sign c
 is_spelled Arrow = true
 is_spelled (Quoted cs) = true
@@ -123,6 +127,7 @@ kind_of (Word w) = kinds.Name
 kind_of (Dotted f b) = kinds.Dotted
 kind_of (Digits d) = kinds.Digits
 kind_of (Negative d) = kinds.Negative
+kind_of (Marked d) = kinds.Mark
 kind_of (Sign c) = kinds.Sign c
 kind_of Arrow = kinds.Arrow
 kind_of (Quoted cs) = kinds.Text
@@ -132,6 +137,7 @@ not_bad (Word w) e = cc
 not_bad (Dotted f b) e = cc
 not_bad (Digits d) e = cc
 not_bad (Negative d) e = cc
+not_bad (Marked d) e = cc
 not_bad (Sign c) e = cc
 not_bad Arrow e = cc
 not_bad (Quoted cs) e = cc
@@ -160,6 +166,9 @@ sign_no_minus c h = grind (arith, nat_tests)
 sign_no_quote : (c : ℕ) → is_sign c ≡ true → (c == 34) ≡ false
 sign_no_quote c h = grind (arith, nat_tests)
 
+sign_no_mark : (c : ℕ) → is_sign c ≡ true → (c == 33) ≡ false
+sign_no_mark c h = grind (arith, nat_tests)
+
 no_dots : (cs : List ℕ) → list_all is_name_char cs ≡ true → has_dot cs ≡ false
 no_dots [] h = refl
 no_dots (c ∷ cs) h = let b = both_hold (is_name_char c) (list_all is_name_char cs) h in rw (name_no_dot c b.0) (no_dots cs b.1)
@@ -178,7 +187,7 @@ a_word false d e k h g = absurd (let t : false ≡ true = h in cc)
 
 -- the kind of what begins with no letter
 abbrev other_sort : ℕ → List ℕ → TokenKind
-other_sort c cs = if is_digit c then kinds.Digits else (if c == 45 then behind_minus cs else (if c == 34 then kinds.Text else kinds.Sign c))
+other_sort c cs = if is_digit c then kinds.Digits else (if c == 45 then behind_minus cs else other_kind c)
 
 -- the kind of a token is seen from its characters
 pub sort_is : (t : Lexeme) → is_spelled t ≡ true → kind_of_text (text_of t) ≡ kind_of t
@@ -198,7 +207,8 @@ sort_is (Negative []) h = absurd (let t : false ≡ true = h in cc)
 sort_is (Negative (c ∷ d)) h =
     let g = (both_hold (is_digit c) (list_all is_digit d) h).0 in
     rw (digit_no_greater c g) refl
-sort_is (Sign c) h = rw (sign_no_letter c h, sign_no_digit c h, sign_no_minus c h, sign_no_quote c h) refl
+sort_is (Marked d) h = refl
+sort_is (Sign c) h = rw (sign_no_letter c h, sign_no_digit c h, sign_no_minus c h, sign_no_quote c h, sign_no_mark c h) refl
 sort_is Arrow h = refl
 sort_is (Quoted cs) h = refl
 
@@ -367,6 +377,19 @@ here whole i (Negative (c ∷ d)) cs r s e =
       spelled = (first, digits);
       longest = negative_longest whole i (i + length (45 ∷ c ∷ d)) first digits (stops_digit whole _ cs q e);
     }
+here whole i (Marked []) cs r s e = absurd (let t : false ≡ true = s in cc)
+here whole i (Marked (c ∷ d)) cs r s e =
+    let q = past whole i (33 ∷ c ∷ d) cs r in
+    let after_mark = past whole i (33 ∷ []) (c ∷ d ++ cs) r in
+    let first : slice_index whole i ≡ 33 = first_in whole i 33 (c ∷ d ++ cs) r in
+    let l : length (33 ∷ c ∷ d) ≡ suc (suc (length d)) = refl in
+    let m : length (c ∷ d) ≡ suc (length d) = refl in
+    let digits : AreDigits whole (i + 1) (i + length (33 ∷ c ∷ d)) = (omega arith, runs_in is_digit whole (i + 1) (c ∷ d) cs after_mark s (i + length (33 ∷ c ∷ d)) (omega arith)) in
+    record {
+      visible = ap is_whitespace first;
+      spelled = (first, digits);
+      longest = mark_longest whole i (i + length (33 ∷ c ∷ d)) first (omega arith) (stops_digit whole _ cs q e);
+    }
 here whole i (Sign c) cs r s e =
     let first : slice_index whole i ≡ c = first_in whole i c cs r in
     record {
@@ -462,6 +485,7 @@ stops_line (Word w) cs h = clean_line cs h
 stops_line (Dotted f b) cs h = clean_line cs h
 stops_line (Digits d) cs h = clean_line cs h
 stops_line (Negative d) cs h = clean_line cs h
+stops_line (Marked d) cs h = clean_line cs h
 stops_line (Sign c) cs h = fresh_line cs h
 stops_line Arrow cs h = refl
 stops_line (Quoted q) cs h = clean_line cs h
@@ -505,6 +529,7 @@ lexeme_ascii (Word w) h p = name_ascii w h
 lexeme_ascii (Dotted f b) h p = let s = both_hold (is_name f) (is_name b) h in IsAscii-append f (46 ∷ b) (name_ascii f s.0) (IsAscii-cons 46 b (omega arith) (name_ascii b s.1))
 lexeme_ascii (Digits d) h p = digits_ascii d h
 lexeme_ascii (Negative d) h p = IsAscii-cons 45 d (omega arith) (digits_ascii d h)
+lexeme_ascii (Marked d) h p = IsAscii-cons 33 d (omega arith) (digits_ascii d h)
 lexeme_ascii (Sign c) h p = IsAscii-cons c [] (sign_low c h) IsAscii-nil
 lexeme_ascii Arrow h p = IsAscii-cons 45 (62 ∷ []) (omega arith) (IsAscii-cons 62 [] (omega arith) IsAscii-nil)
 lexeme_ascii (Quoted cs) h p = absurd (let t : false ≡ true = p in cc)

@@ -260,11 +260,15 @@ abbrev pub behind_minus : List ℕ → TokenKind
 behind_minus [] = kinds.Negative
 behind_minus (c ∷ cs) = if c == 62 then kinds.Arrow else kinds.Negative
 
+-- the kind of what begins with a character that is no letter, no digit and no `-`: a text in quotes, a mark (`!` is 33), or a sign
+abbrev pub other_kind : ℕ → TokenKind
+other_kind c = if c == 34 then kinds.Text else (if c == 33 then kinds.Mark else kinds.Sign c)
+
 -- the kind of a token with these characters, as layouts have them
 abbrev pub kind_of_text : List ℕ → TokenKind
 kind_of_text [] = kinds.Bad
 kind_of_text (c ∷ cs) = if is_letter c then (if has_dot cs then kinds.Dotted else kinds.Name)
-    else (if is_digit c then kinds.Digits else (if c == 45 then behind_minus cs else (if c == 34 then kinds.Text else kinds.Sign c)))
+    else (if is_digit c then kinds.Digits else (if c == 45 then behind_minus cs else other_kind c))
 
 -- its kind in a grammar with these words
 abbrev pub kind_by : List (List ℕ) → List ℕ → ℕ

@@ -15,7 +15,7 @@ use Rattle.ir_names.specs.declared.kinds.Signedness.{Signedness}
 use Rattle.ir_names.specs.declared.kinds.Signedness.TheVariants.{Signless, Signed, Unsigned}
 use Rattle.ir_names.specs.Text.{is_first_code, is_later_code, is_identifier}
 use Rattle.ir_print.specs.Formats.{Formats}
-use Rattle.ir_print.specs.Layout.{width_text, number_text, escaped, in_quotes}
+use Rattle.ir_print.specs.Layout.{width_text, number_text, mark_text, escaped, in_quotes}
 use Rattle.ir_grammar.specs.declared.grammar.Class.{Class}
 use Rattle.ir_grammar.specs.declared.grammar.Grammar.{Grammar}
 use Rattle.ir_tokens.specs.declared.tokens.TokenKind.{TokenKind}
@@ -24,7 +24,7 @@ use Rattle.ir_grammar.specs.Grammar.{accepted, accepts}
 use Rattle.ir_tokens.specs.Tokens.{is_letter, is_digit}
 use Rattle.ir_formats.specs.Words.{is_width, are_digits, are_whole, is_quotation, is_spelled, word_kind, shape_kind}
 use Rattle.ir_formats.specs.Rules.{number_of, up, is_name, takes, class_of, classes_of, words_of, plain_classes}
-use Rattle.ir_rereading.proofs.layouts.Marks.{has_dot, behind_minus, kind_of_text, kind_by}
+use Rattle.ir_rereading.proofs.layouts.Marks.{has_dot, behind_minus, other_kind, kind_of_text, kind_by}
 use Rattle.ir_formats.proofs.Spelled.{number_at}
 use Rattle.ir_rereading.proofs.layouts.Among.{IsAmong, number_below, among_below}
 use Rattle.ir_rereading.proofs.layouts.PlainWords.{Tested, is_word_among, not_width, word_spelled}
@@ -54,7 +54,7 @@ identifier_sort : (cs : List ℕ) → is_identifier cs ≡ true → kind_of_text
 identifier_sort [] h = cc
 identifier_sort (c ∷ cs) h =
     let t = both_hold (is_first_code c) (list_all is_later_code cs) h in
-    go (is_letter c) (has_dot cs) (if is_digit c then kinds.Digits else (if c == 45 then behind_minus cs else (if c == 34 then kinds.Text else kinds.Sign c))) (first_letter c t.0) (no_dots cs t.1)
+    go (is_letter c) (has_dot cs) (if is_digit c then kinds.Digits else (if c == 45 then behind_minus cs else other_kind c)) (first_letter c t.0) (no_dots cs t.1)
   where
     go : (a b : Bool) (k : TokenKind) → a ≡ true → b ≡ false → (if a then (if b then kinds.Dotted else kinds.Name) else k) ≡ kinds.Name
     go true true k d e = cc
@@ -100,7 +100,7 @@ digits_sort [] h = cc
 digits_sort (c ∷ cs) h =
     let t = both_hold (list_all is_digit (c ∷ cs)) (nat_lt 0 (suc (length cs))) h in
     let u = both_hold (is_digit c) (list_all is_digit cs) t.0 in
-    digit_sort c (if has_dot cs then kinds.Dotted else kinds.Name) (if c == 45 then behind_minus cs else (if c == 34 then kinds.Text else kinds.Sign c)) u.0
+    digit_sort c (if has_dot cs then kinds.Dotted else kinds.Name) (if c == 45 then behind_minus cs else other_kind c) u.0
 
 negative_sort : (ds : List ℕ) → are_digits ds ≡ true → kind_of_text (45 ∷ ds) ≡ kinds.Negative
 negative_sort [] h = cc
@@ -147,18 +147,18 @@ width_is Unsigned n h = decimal_digits n (omega arith)
 abbrev kind_sort : List (List ℕ) → TokenKind → List ℕ → ℕ
 kind_sort ws k cs = if is_spelled k then word_kind (number_of ws cs) (length ws) (shape_kind k cs) else shape_kind k cs
 
-word_kind_in : (n len shape : ℕ) → n < len → n < 4294967289 → word_kind n len shape ≡ n + 6
-word_kind_in n len shape h k = go (nat_lt n len && nat_lt n 4294967289) (and_true (nat_lt n len) (nat_lt n 4294967289) (lt-ltb n len h) (lt-ltb n 4294967289 k))
+word_kind_in : (n len shape : ℕ) → n < len → n < 4294967288 → word_kind n len shape ≡ n + 7
+word_kind_in n len shape h k = go (nat_lt n len && nat_lt n 4294967288) (and_true (nat_lt n len) (nat_lt n 4294967288) (lt-ltb n len h) (lt-ltb n 4294967288 k))
   where
-    go : (b : Bool) → b ≡ true → (if b then n + 6 else shape) ≡ n + 6
+    go : (b : Bool) → b ≡ true → (if b then n + 7 else shape) ≡ n + 7
     go true e = refl
     go false e = cc
 
 word_kind_out : (n len shape : ℕ) → len ≤ n → word_kind n len shape ≡ shape
-word_kind_out n len shape h = go (nat_lt n len && nat_lt n 4294967289) refl
+word_kind_out n len shape h = go (nat_lt n len && nat_lt n 4294967288) refl
   where
-    go : (b : Bool) → nat_lt n len && nat_lt n 4294967289 ≡ b → (if b then n + 6 else shape) ≡ shape
-    go true e = let lt = ltb-true n len (both_hold (nat_lt n len) (nat_lt n 4294967289) e).0 in absurd (omega arith)
+    go : (b : Bool) → nat_lt n len && nat_lt n 4294967288 ≡ b → (if b then n + 7 else shape) ≡ shape
+    go true e = let lt = ltb-true n len (both_hold (nat_lt n len) (nat_lt n 4294967288) e).0 in absurd (omega arith)
     go false e = refl
 
 spelled_kind : (ws : List (List ℕ)) (k : TokenKind) (cs : List ℕ) → is_spelled k ≡ true → kind_sort ws k cs ≡ word_kind (number_of ws cs) (length ws) (shape_kind k cs)
@@ -168,16 +168,16 @@ spelled_kind ws k cs h = go (is_spelled k) h
     go true e = refl
     go false e = cc
 
-up_is : (n : ℕ) → n < 65536 → up n 5 ≡ suc (suc (suc (suc (suc n))))
+up_is : (n : ℕ) → n < 65536 → up n 6 ≡ suc (suc (suc (suc (suc (suc n)))))
 up_is n h = omega arith
 
-takes_word : (ws : List (List ℕ)) (n : ℕ) → takes ws (suc (suc (suc (suc (suc n))))) (n + 6) ≡ true
-takes_word ws n = eq-eqb (n + 6) (n + 6) refl
+takes_word : (ws : List (List ℕ)) (n : ℕ) → takes ws (suc (suc (suc (suc (suc (suc n)))))) (n + 7) ≡ true
+takes_word ws n = eq-eqb (n + 7) (n + 7) refl
 
-takes_name : (ws : List (List ℕ)) (n : ℕ) (cs : List ℕ) → slice_get ws n ≡ Some cs → is_identifier cs ≡ true → takes ws 0 (n + 6) ≡ true
-takes_name ws n cs at h = go (nat_lt (n + 6) 6) (grind (arith, nat_tests)) (let same : n + 6 - 6 ≡ n = omega arith in ap (slice_get ws) same ∙ at)
+takes_name : (ws : List (List ℕ)) (n : ℕ) (cs : List ℕ) → slice_get ws n ≡ Some cs → is_identifier cs ≡ true → takes ws 0 (n + 7) ≡ true
+takes_name ws n cs at h = go (nat_lt (n + 7) 7) (grind (arith, nat_tests)) (let same : n + 7 - 7 ≡ n = omega arith in ap (slice_get ws) same ∙ at)
   where
-    go : (b : Bool) → b ≡ false → slice_get ws (n + 6 - 6) ≡ Some cs → (if b then (n + 6) == 0 || (n + 6) == 1 else is_name (slice_get ws (n + 6 - 6))) ≡ true
+    go : (b : Bool) → b ≡ false → slice_get ws (n + 7 - 7) ≡ Some cs → (if b then (n + 7) == 0 || (n + 7) == 1 else is_name (slice_get ws (n + 7 - 7))) ≡ true
     go true e o = cc
     go false e o = ap is_name o ∙ h
 
@@ -185,7 +185,7 @@ takes_shape : (ws : List (List ℕ)) (b : Bool) → takes ws 0 (if b then 1 else
 takes_shape ws true = refl
 takes_shape ws false = refl
 
-shape_small : (n : ℕ) (b : Bool) → (if b then 1 else 0) < n + 6
+shape_small : (n : ℕ) (b : Bool) → (if b then 1 else 0) < n + 7
 shape_small n true = omega arith
 shape_small n false = omega arith
 
@@ -196,24 +196,24 @@ row_takes None row k e h = cc
 row_takes (Some c) row k e h = let same : c.kinds.items ≡ row = let t : Some c.kinds.items ≡ Some row = e in cc in ap (λ r. slice_index_or r k false) same ∙ h
 
 module _ (g : Grammar) (f : Formats) (signs : plain_classes g.signs.items ≡ classes_of (words_of f)) (t : Tested f) where
-  accepts_takes : (s k : ℕ) → s < length (words_of f) + 5 → k < length (words_of f) + 6 → takes (words_of f) s k ≡ true → accepts g s k ≡ true
+  accepts_takes : (s k : ℕ) → s < length (words_of f) + 6 → k < length (words_of f) + 7 → takes (words_of f) s k ≡ true → accepts g s k ≡ true
   accepts_takes s k ss kk h =
       let ws = words_of f in
       let row : slice_get (classes_of ws) s ≡ Some (class_of ws s) =
-      slice_get_read (classes_of ws) (length ws + 5) s (class_of ws s) (sym (length-map-range_with_len (class_of ws) 0 (length ws + 5))) ss (sym (get_or-map-range_with_len (class_of ws) 0 (length ws + 5) s s (class_of ws s) ss (omega arith))) in
+      slice_get_read (classes_of ws) (length ws + 6) s (class_of ws s) (sym (length-map-range_with_len (class_of ws) 0 (length ws + 6))) ss (sym (get_or-map-range_with_len (class_of ws) 0 (length ws + 6) s s (class_of ws s) ss (omega arith))) in
       row_takes (slice_get g.signs.items s) (class_of ws s) k (sym (slice_get-map (λ (c : Class). c.kinds.items) g.signs.items s) ∙ ap (λ cs. slice_get cs s) signs ∙ row)
-      (get_or-map-range_with_len (takes ws s) 0 (length ws + 6) k k false kk (omega arith) ∙ h)
+      (get_or-map-range_with_len (takes ws s) 0 (length ws + 7) k k false kk (omega arith) ∙ h)
 
   -- a word of the formats is taken by its sign
-  pub word_accepted : (w : List ℕ) → IsAmong w (words_of f) → accepts g (up (number_of (words_of f) w) 5) (kind_by (words_of f) w) ≡ true
+  pub word_accepted : (w : List ℕ) → IsAmong w (words_of f) → accepts g (up (number_of (words_of f) w) 6) (kind_by (words_of f) w) ≡ true
   word_accepted w h =
       let ws = words_of f in
       let n = number_of ws w in
       let lt : n < length ws = number_below ws w h in
       let few = t.words in
-      let kind : kind_by ws w ≡ n + 6 = spelled_kind ws (kind_of_text w) w (word_spelled w (is_word_among f t w h)) ∙ word_kind_in n (length ws) (shape_kind (kind_of_text w) w) lt (omega arith) in
-      let sign : up n 5 ≡ suc (suc (suc (suc (suc n)))) = up_is n (omega arith) in
-      rw (sign, kind) (accepts_takes (suc (suc (suc (suc (suc n))))) (n + 6) (omega arith) (omega arith) (takes_word ws n))
+      let kind : kind_by ws w ≡ n + 7 = spelled_kind ws (kind_of_text w) w (word_spelled w (is_word_among f t w h)) ∙ word_kind_in n (length ws) (shape_kind (kind_of_text w) w) lt (omega arith) in
+      let sign : up n 6 ≡ suc (suc (suc (suc (suc (suc n))))) = up_is n (omega arith) in
+      rw (sign, kind) (accepts_takes (suc (suc (suc (suc (suc (suc n)))))) (n + 7) (omega arith) (omega arith) (takes_word ws n))
 
   name_kind : (cs : List ℕ) → is_identifier cs ≡ true → kind_by (words_of f) cs ≡ word_kind (number_of (words_of f) cs) (length (words_of f)) (if is_width cs then 1 else 0)
   name_kind cs h = ap (λ k. kind_sort (words_of f) k cs) (identifier_sort cs h)
@@ -231,8 +231,8 @@ module _ (g : Grammar) (f : Formats) (signs : plain_classes g.signs.items ≡ cl
       go : (number_of (words_of f) cs < length (words_of f)) ⊎ (length (words_of f) ≤ number_of (words_of f) cs) → accepts g 0 (kind_by (words_of f) cs) ≡ true
       go (inl lt) =
           let few = t.words in
-          let kind : kind_by (words_of f) cs ≡ number_of (words_of f) cs + 6 = name_kind cs h ∙ word_kind_in (number_of (words_of f) cs) (length (words_of f)) (if is_width cs then 1 else 0) lt (omega arith) in
-          rw kind (accepts_takes 0 (number_of (words_of f) cs + 6) (omega arith) (omega arith) (takes_name (words_of f) (number_of (words_of f) cs) cs (number_at (words_of f) cs lt) h))
+          let kind : kind_by (words_of f) cs ≡ number_of (words_of f) cs + 7 = name_kind cs h ∙ word_kind_in (number_of (words_of f) cs) (length (words_of f)) (if is_width cs then 1 else 0) lt (omega arith) in
+          rw kind (accepts_takes 0 (number_of (words_of f) cs + 7) (omega arith) (omega arith) (takes_name (words_of f) (number_of (words_of f) cs) cs (number_at (words_of f) cs lt) h))
       go (inr le) =
           let kind : kind_by (words_of f) cs ≡ (if is_width cs then 1 else 0) = name_kind cs h ∙ word_kind_out (number_of (words_of f) cs) (length (words_of f)) (if is_width cs then 1 else 0) le in
           rw kind (accepts_takes 0 (if is_width cs then 1 else 0) (omega arith) (shape_small (length (words_of f)) (is_width cs)) (takes_shape (words_of f) (is_width cs)))
@@ -267,5 +267,9 @@ module _ (g : Grammar) (f : Formats) (signs : plain_classes g.signs.items ≡ cl
   -- and a text in quotes by that of these
   pub quotation_accepted : (cs : List ℕ) → accepts g 4 (kind_by (words_of f) (in_quotes cs)) ≡ true
   quotation_accepted cs =
-      let kind : kind_by (words_of f) (in_quotes cs) ≡ 4 = ap (λ (b : Bool). if b then 4 else 5) (quotation_whole cs) in
+      let kind : kind_by (words_of f) (in_quotes cs) ≡ 4 = ap (λ (b : Bool). if b then 4 else 6) (quotation_whole cs) in
       rw kind (accepts_takes 4 4 (omega arith) (omega arith) refl)
+
+  -- and a mark by that of marks
+  pub mark_accepted : (n : ℕ) → n < 2 ^ 64 → accepts g 5 (kind_by (words_of f) (mark_text n)) ≡ true
+  mark_accepted n h = accepts_takes 5 5 (omega arith) (omega arith) refl

@@ -16,7 +16,7 @@ use Rattle.ir_tokens.specs.Tokens.{is_letter, is_digit, is_name_char, is_sign}
 use Rattle.ir_formats.specs.Words.{is_width, is_spelled}
 use Rattle.ir_formats.specs.Rules.{words_in_step, words_in, words_in_choices, words_of, parts_of, kinds_of, frame_words}
 use Rattle.ir_rereading.specs.Printable.{ends_name, is_word, less_spaces, is_before_spaces, is_printed, BoundaryBefore, apart, part, behind, begins_apart, ends_apart, may_follow, may_take, is_step_apart, are_steps_apart, are_choices_apart, is_kind_printable, is_printable}
-use Rattle.ir_rereading.proofs.layouts.Marks.{has_dot, behind_minus, kind_of_text}
+use Rattle.ir_rereading.proofs.layouts.Marks.{has_dot, behind_minus, other_kind, kind_of_text}
 use Rattle.ir_rereading.proofs.layouts.Among.{IsAmong, among_either, WordFrom, of_frame, of_kind, word_source}
 use Rattle.ir_formats.proofs.Booleans.{both_hold}
 
@@ -231,7 +231,7 @@ sort_sign : (c : ℕ) → is_sign c ≡ true → is_spelled (kind_of_text (c ∷
 sort_sign c h = sign_by (λ x. is_spelled (kind_of_text (x ∷ []))) c (codes "{}()[]<>,;:=@^?") refl h
 
 sort_letter : (c : ℕ) (cs : List ℕ) → is_letter c ≡ true → is_spelled (kind_of_text (c ∷ cs)) ≡ true
-sort_letter c cs h = go (is_letter c) (has_dot cs) (if is_digit c then kinds.Digits else (if c == 45 then behind_minus cs else (if c == 34 then kinds.Text else kinds.Sign c))) h
+sort_letter c cs h = go (is_letter c) (has_dot cs) (if is_digit c then kinds.Digits else (if c == 45 then behind_minus cs else other_kind c)) h
   where
     go : (a b : Bool) (k : TokenKind) → a ≡ true → is_spelled (if a then (if b then kinds.Dotted else kinds.Name) else k) ≡ true
     go true true k e = refl

@@ -5,7 +5,7 @@ use Rattle.ir_names.specs.Tree.{node, no_tree, a_tree}
 use Rattle.ir_print.specs.Formats as step
 use Rattle.ir_print.specs.Formats.{Formats, Kind, Step, Steps, no_steps, Choices, no_choice, a_choice, alternative, kinds_of}
 use Rattle.ir_print.specs.Layout.{a_word}
-use Rattle.ir_print.specs.Pieces.{value_of_kind, list, item, chosen, operands, successor, region, Leaf, leaf, name, number, unsigned, width, quoted, ValueTree, Pieces, Values}
+use Rattle.ir_print.specs.Pieces.{value_of_kind, list, item, chosen, operands, successor, region, Leaf, leaf, name, number, unsigned, width, quoted, mark, ValueTree, Pieces, Values}
 use Rattle.ir_print.specs.Shapes.{parts_in, sort_of, TakesLeaf, IsInRange, TakesOperands, Fits, FitAll, FitMembers, FitsMember}
 use Rattle.ir_grammar.specs.declared.grammar.Action.TheVariants as act
 use Rattle.ir_grammar.specs.declared.grammar.Symbol.{Symbol}
@@ -18,7 +18,7 @@ use Rattle.ir_rereading.proofs.layouts.Marks.{Mark, token, word, one_leaf, did, 
 use Rattle.ir_rereading.proofs.Alternatives.{known_format, value_alternative}
 use Rattle.ir_rereading.proofs.layouts.Among.{IsAmong, AreAmong, among_front, among_back}
 use Rattle.ir_rereading.proofs.layouts.PlainWords.{Tested}
-use Rattle.ir_rereading.proofs.layouts.PlainKinds.{name_accepted, width_accepted, number_accepted, digits_accepted, quotation_accepted}
+use Rattle.ir_rereading.proofs.layouts.PlainKinds.{name_accepted, width_accepted, number_accepted, digits_accepted, quotation_accepted, mark_accepted}
 use Rattle.ir_rereading.proofs.layouts.MarkSteps.{DerivesMarks, shift_leaf, acted, regroup, expand, Placed, AllPlaced, IsReadAt, AreReadAt, took, took_word, format_reads, kind_reads}
 use Rattle.ir_print.specs.declared.format.ValueSort.{ValueSort}
 use Rattle.ir_print.specs.declared.format.ValueSort.TheVariants as sorts
@@ -163,6 +163,7 @@ module _ (g : Grammar) (f : Formats) (known : IsGrammarOf f g) (t : Tested f) wh
     leaf_taken (unsigned magnitude) ss ms e d = shift_leaf (digits_accepted g f known.signs t magnitude e) d
     leaf_taken (width sign bits) ss ms e d = shift_leaf (width_accepted g f known.signs t sign bits e) d
     leaf_taken (quoted cs) ss ms e d = shift_leaf (quotation_accepted g f known.signs t cs) d
+    leaf_taken (mark n) ss ms e d = shift_leaf (mark_accepted g f known.signs t n e) d
 
     leaf_read : (s : Step) (x : Leaf) (ts : Pieces) → TakesLeaf s (sort_of x) → IsInRange x → IsReadAt g f s (Some (piece_on f (node (leaf x) ts)))
     leaf_read (step.a_leaf sort) x ts h e =

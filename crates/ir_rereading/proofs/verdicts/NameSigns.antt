@@ -88,11 +88,12 @@ module _ (ws : List (List ℕ)) where
     step_behind (a_leaf leaves.Digits) n = (tt, tt)
     step_behind (a_leaf leaves.Width) n = (tt, tt)
     step_behind (a_leaf leaves.Text) n = (tt, tt)
+    step_behind (a_leaf leaves.Mark) n = (tt, tt)
     step_behind (choice_of cs) n = (tt, choices_behind n 0 cs (up n 1))
     step_behind (list_of member printed separator) n =
         let m = steps_made ws member (up n 2) in
         let inside = steps_behind member (up n 2) in
-        (tt, rules_append m.rules _ inside.1 (several_behind n (up (number_of ws separator) 5) (Act act.BeginItem ∷ (m.symbols ++ Act act.EndItem ∷ [])) (behind_append false m.symbols (Act act.EndItem ∷ []) inside.0 tt)))
+        (tt, rules_append m.rules _ inside.1 (several_behind n (up (number_of ws separator) 6) (Act act.BeginItem ∷ (m.symbols ++ Act act.EndItem ∷ [])) (behind_append false m.symbols (Act act.EndItem ∷ []) inside.0 tt)))
 
     steps_behind : (ss : Steps) (n : ℕ) → MadeBehindNames (steps_made ws ss n)
     steps_behind no_steps n = (tt, tt)
@@ -124,7 +125,7 @@ module _ (ws : List (List ℕ)) where
       let m = steps_made ws k.format n in
       let inside = steps_behind k.format n in
       rules_append (m.rules ++ (part_of s, sign ws k.id ∷ Act (begin_of s i) ∷ (m.symbols ++ Act (end_of s) ∷ [])) ∷ []) _
-      (rules_append m.rules _ inside.1 (body_behind s i (up (number_of ws k.id) 5 == 0) m.symbols inside.0, tt))
+      (rules_append m.rules _ inside.1 (body_behind s i (up (number_of ws k.id) 6 == 0) m.symbols inside.0, tt))
       (kinds_behind s (suc i) ks m.next)
 
 -- all rules of a dialect's grammar are so

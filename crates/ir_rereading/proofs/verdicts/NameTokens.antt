@@ -66,7 +66,7 @@ identifier_ascii (c ∷ cs) h (suc i) = later_ascii cs (both_hold (is_first_code
 
 module _ (ws : List (List ℕ)) where
   -- a text in quotes is no name
-  pub quoted_no_name : (b : Bool) → may_be_name ws (if b then 4 else 5) ≡ true → ⊥
+  pub quoted_no_name : (b : Bool) → may_be_name ws (if b then 4 else 6) ≡ true → ⊥
   quoted_no_name true h = let wrong : false ≡ true = h in cc
   quoted_no_name false h = let wrong : false ≡ true = h in cc
 
@@ -98,23 +98,23 @@ module _ (ws : List (List ℕ)) where
       let same : chars w ≡ text = cc in
       subst (λ (x : List ℕ). is_identifier x ≡ true) (sym (chars-IsAscii w (identifier_ascii w h)) ∙ same) h
 
-  word_place : (n : ℕ) → may_be_name ws (n + 6) ≡ true → is_name (slice_get ws n) ≡ true
-  word_place n h = go (nat_lt (n + 6) 6) (grind (arith, nat_tests)) h
+  word_place : (n : ℕ) → may_be_name ws (n + 7) ≡ true → is_name (slice_get ws n) ≡ true
+  word_place n h = go (nat_lt (n + 7) 7) (grind (arith, nat_tests)) h
     where
-      go : (b : Bool) → b ≡ false → (if b then (n + 6) == 0 || (n + 6) == 1 else is_name (slice_get ws (n + 6 - 6))) ≡ true → is_name (slice_get ws n) ≡ true
+      go : (b : Bool) → b ≡ false → (if b then (n + 7) == 0 || (n + 7) == 1 else is_name (slice_get ws (n + 7 - 7))) ≡ true → is_name (slice_get ws n) ≡ true
       go true e h = cc
-      go false e h = let same : n + 6 - 6 ≡ n = omega arith in rw same at h
+      go false e h = let same : n + 7 - 7 ≡ n = omega arith in rw same at h
 
   spelled_name : (cs : List ℕ) (t : Token) → IsToken cs t → may_be_name ws (word_kind (number_of (map chars ws) (text_of cs t)) (length (map chars ws)) (shape_kind t.kind (text_of cs t))) ≡ true
       → is_identifier (text_of cs t) ≡ true
-  spelled_name cs t token h = go (nat_lt n (length (map chars ws)) && nat_lt n 4294967289) refl h
+  spelled_name cs t token h = go (nat_lt n (length (map chars ws)) && nat_lt n 4294967288) refl h
     where
       n : ℕ
       n = number_of (map chars ws) (text_of cs t)
 
-      go : (b : Bool) → nat_lt n (length (map chars ws)) && nat_lt n 4294967289 ≡ b → may_be_name ws (if b then n + 6 else shape_kind t.kind (text_of cs t)) ≡ true → is_identifier (text_of cs t) ≡ true
+      go : (b : Bool) → nat_lt n (length (map chars ws)) && nat_lt n 4294967288 ≡ b → may_be_name ws (if b then n + 7 else shape_kind t.kind (text_of cs t)) ≡ true → is_identifier (text_of cs t) ≡ true
       go true e h =
-          let less : n < length (map chars ws) = let a = (both_hold (nat_lt n (length (map chars ws))) (nat_lt n 4294967289) e).0 in grind (arith, nat_tests) in
+          let less : n < length (map chars ws) = let a = (both_hold (nat_lt n (length (map chars ws))) (nat_lt n 4294967288) e).0 in grind (arith, nat_tests) in
           word_text (text_of cs t) (slice_get ws n) (word_place n h) (sym (slice_get-map chars ws n) ∙ number_at (map chars ws) (text_of cs t) less)
       go false e h = name_text cs t token (shape_name t.kind (text_of cs t) h)
 
@@ -129,16 +129,16 @@ module _ (ws : List (List ℕ)) where
   -- ---- the sign of names
 
   class_name : (k : ℕ) → slice_index_or (class_of ws 0) k false ≡ true → may_be_name ws k ≡ true
-  class_name k h = go (cases_lt k (length ws + 6))
+  class_name k h = go (cases_lt k (length ws + 7))
     where
-      go : (k < length ws + 6) ⊎ (length ws + 6 ≤ k) → may_be_name ws k ≡ true
-      go (inl less) = sym (get_or-map-range_with_len (takes ws 0) 0 (length ws + 6) k k false less (omega arith)) ∙ h
+      go : (k < length ws + 7) ⊎ (length ws + 7 ≤ k) → may_be_name ws k ≡ true
+      go (inl less) = sym (get_or-map-range_with_len (takes ws 0) 0 (length ws + 7) k k false less (omega arith)) ∙ h
       go (inr more) =
-          let past : slice_index_or (class_of ws 0) k false ≡ false = get_or_past (class_of ws 0) k false (omega (arith, length-map-range_with_len (takes ws 0) 0 (length ws + 6))) in
+          let past : slice_index_or (class_of ws 0) k false ≡ false = get_or_past (class_of ws 0) k false (omega (arith, length-map-range_with_len (takes ws 0) 0 (length ws + 7))) in
           let wrong : false ≡ true = sym past ∙ h in cc
 
   pub accepted_name : (cs : List Class) (k : ℕ) → plain_classes cs ≡ classes_of ws → accepted (slice_get cs 0) k ≡ true → may_be_name ws k ≡ true
   accepted_name [] k e h = cc
   accepted_name (c ∷ cs) k e h =
-      let row : c.kinds.items ≡ class_of ws 0 = ap (λ xs. get_or xs 0 []) e ∙ get_or-map-range_with_len (class_of ws) 0 (length ws + 5) 0 0 [] (omega arith) refl in
+      let row : c.kinds.items ≡ class_of ws 0 = ap (λ xs. get_or xs 0 []) e ∙ get_or-map-range_with_len (class_of ws) 0 (length ws + 6) 0 0 [] (omega arith) refl in
       class_name k (subst (λ (x : List Bool). slice_index_or x k false ≡ true) row h)

@@ -123,18 +123,18 @@ module _ (ws : List (List ℕ)) where
   spelled_kind _ text word e = refl
 
   class_name : (k : ℕ) → slice_index_or (class_of ws 0) k false ≡ true → may_be_name ws k ≡ true
-  class_name k h = go (cases_lt k (length ws + 6))
+  class_name k h = go (cases_lt k (length ws + 7))
     where
-      go : (k < length ws + 6) ⊎ (length ws + 6 ≤ k) → may_be_name ws k ≡ true
-      go (inl less) = sym (get_or-map-range_with_len (takes ws 0) 0 (length ws + 6) k k false less (omega arith)) ∙ h
+      go : (k < length ws + 7) ⊎ (length ws + 7 ≤ k) → may_be_name ws k ≡ true
+      go (inl less) = sym (get_or-map-range_with_len (takes ws 0) 0 (length ws + 7) k k false less (omega arith)) ∙ h
       go (inr more) =
-          let past : slice_index_or (class_of ws 0) k false ≡ false = get_or_past (class_of ws 0) k false (omega (arith, length-map-range_with_len (takes ws 0) 0 (length ws + 6))) in
+          let past : slice_index_or (class_of ws 0) k false ≡ false = get_or_past (class_of ws 0) k false (omega (arith, length-map-range_with_len (takes ws 0) 0 (length ws + 7))) in
           let wrong : false ≡ true = sym past ∙ h in cc
 
   accepted_name : (cs : List Class) (k : ℕ) → plain_classes cs ≡ classes_of ws → accepted (slice_get cs 0) k ≡ true → may_be_name ws k ≡ true
   accepted_name [] k e h = cc
   accepted_name (c ∷ cs) k e h =
-      let row : c.kinds.items ≡ class_of ws 0 = ap (λ xs. get_or xs 0 []) e ∙ get_or-map-range_with_len (class_of ws) 0 (length ws + 5) 0 0 [] (omega arith) refl in
+      let row : c.kinds.items ≡ class_of ws 0 = ap (λ xs. get_or xs 0 []) e ∙ get_or-map-range_with_len (class_of ws) 0 (length ws + 6) 0 0 [] (omega arith) refl in
       class_name k (subst (λ (x : List Bool). slice_index_or x k false ≡ true) row h)
 
 -- ---- what reading gives

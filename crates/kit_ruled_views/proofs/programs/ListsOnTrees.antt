@@ -21,8 +21,8 @@ module _ {N : Names} (told : AreTold N) (leads : TypeHandle → Option KitType) 
       IsTreePass x t u → IsProgramOf {N = N} told.value leads numbered t p →
       (q : FunctionsByPath Place) × IsProgramOf {N = N} told.value leads numbered u q × IsPass x p q
   pass_on DcePass t u p sound pass is = dce_on_programs told leads numbered sound.0 t sound.1 u pass p is
-  pass_on SccpPass t u p sound pass is = sccp_on_programs told leads numbered sound.0 t sound.1 u pass p is
-  pass_on LeanSccpPass t u p sound pass is = absurd pass
+  pass_on SccpPass t u p sound pass is = absurd pass
+  pass_on LeanSccpPass t u p sound pass is = sccp_on_programs told leads numbered sound.0 t sound.1 u pass p is
   pass_on SimplifyPass t u p sound pass is = simplify_on_programs told leads numbered sound.0 t sound.1 u pass p is
 
   pub list_on : (xs : List Pass) (t r : Root N kit_contents) (p : FunctionsByPath Place) →

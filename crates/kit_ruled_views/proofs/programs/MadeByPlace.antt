@@ -1,22 +1,27 @@
--- Which values of a function get constants, by their names and by their places.
-use Rattle.std.proofs.Common.{◌≡◌, ⊎_elim, inl, inr, ℕ, zero, suc, Bool, true, false, Option, Some, None}
-use Rattle.std.proofs.Common.{refl, sym, ap, ◌∙◌}
-use Rattle.std.specs.Prelude.{◌↔◌, slice_get, option_map, if◌then◌else◌, unwrap_or}
+-- Which values of a function get constants, by their names and by their places: known values that have a use.
+use Rattle.std.proofs.Common.{◌≡◌, ⊎_elim, inl, inr, ℕ, zero, suc, Bool, true, false, List, [], ◌∷◌, ◌++◌, Option, Some, None}
+use Rattle.std.proofs.Common.{refl, sym, ap, ◌∙◌, subst}
+use Rattle.std.specs.Prelude.{◌↔◌, map, slice_get, option_map, if◌then◌else◌, unwrap_or}
 use Rattle.opt_trees.specs.Occurrences.{Has}
-use Rattle.opt_trees.proofs.Lists.{option_both, at-map, some_same}
-use Rattle.kit_behaviour.specs.ConstantPropagation.{number_of, number_at, known_at, all_wanted, made_of}
+use Rattle.opt_trees.proofs.Lists.{option_both, at-map, some_same, map-append, has-map, has-from_map}
+use Rattle.kit_behaviour.specs.ConstantPropagation.{number_of, number_at, known_at, used_wanted, made_of}
 use Rattle.kit_behaviour.specs.Facts.{Fact, Undetermined, Known, Unknown, FunctionFacts}
 use Rattle.kit_behaviour.specs.InsertedConstants.{Made}
 use Rattle.kit_behaviour.specs.Machine.{Op, Const, Calc, Emit, Call, Branch, Return, Block, Fun, ops_left, left_in}
 use Rattle.kit_behaviour.specs.NamedPasses.{GetsConstant}
-use Rattle.kit_behaviour.specs.Numbering.{place_fun, HasPlace, NamesAreDefined}
-use Rattle.kit_behaviour.specs.Places.{Place, Arg, Res}
+use Rattle.kit_behaviour.specs.Numbering.{place_block, place_fun, HasPlace, AnyBlock, NamesAreDefined}
+use Rattle.kit_behaviour.specs.Places.{Place, Arg, Res, same_place}
 use Rattle.kit_behaviour.specs.Renaming.{rename_op, same_block}
-use Rattle.kit_behaviour.specs.Scopes.{defs}
+use Rattle.kit_behaviour.specs.Rules.{operands, all_operands, blocks_operands, uses_in}
+use Rattle.kit_behaviour.specs.Scopes.{In, defs}
+use Rattle.kit_behaviour.proofs.Behaviour.FiniteLists.{in_is, is_in_in}
 use Rattle.kit_behaviour.proofs.Behaviour.FrameLemmas.{IsSameness}
 use Rattle.kit_behaviour.proofs.Numbering.NumberingBehaviour.{name_op, name_in, at_place, place_name, place_left}
-use Rattle.kit_behaviour.proofs.Numbering.NumberingRules.{name_at, Distinct}
-use Rattle.kit_views.proofs.Calculated.{IsCalculated, GetsIn, gets_both}
+use Rattle.kit_behaviour.proofs.Numbering.NumberingRules.{name_at, Distinct, operands_under}
+use Rattle.kit_behaviour.proofs.Numbering.PlaceEquality.{place_law}
+use Rattle.kit_behaviour.proofs.Propagation.KnownOperandLemmas.{use_named}
+use Rattle.kit_views.proofs.Calculated.{IsCalculated, GetsIn, gets_both, has_to_in, in_to_has}
+use Rattle.kit_views.proofs.FlatUses.{user_of}
 use Rattle.kit_views.proofs.Lists.{has_get, at_has}
 use Rattle.kit_ruled_views.proofs.programs.PropagationByPlace.{placed_facts, placed_of}
 
@@ -25,9 +30,20 @@ known_number (Known m) n e = ap Known (some_same m n e)
 known_number Undetermined n e = absurd (cc e)
 known_number Unknown n e = absurd (cc e)
 
+-- uses under other names
+module _ {V : Type 0} (r : V → Place) where
+  ops_uses : (ps : List (Op V)) → all_operands (map (rename_op r same_block) ps) ≡ map r (all_operands ps)
+  ops_uses [] = refl
+  ops_uses (p ∷ ps) = (λ i. operands_under r p i ++ ops_uses ps i) ∙ sym (map-append r (operands p) (all_operands ps))
+
+  blocks_uses : (ks : List (Block V)) → blocks_operands (map (place_block r) ks) ≡ map r (blocks_operands ks)
+  blocks_uses [] = refl
+  blocks_uses (k ∷ ks) =
+      (λ i. ops_uses k.ops i ++ blocks_uses ks i) ∙ sym (map-append r (all_operands k.ops) (blocks_operands ks))
+
 module _ {V : Type 0} (same : V → V → Bool) (law : IsSameness same) (f : Fun V) (defined : NamesAreDefined same (Some f))
     (distinct : Distinct (Some f)) (k : FunctionFacts V) (made : Made V)
-    (is_made : (v : V) (n : ℕ) → (made v ≡ Some n) ↔ GetsConstant (Some f) k v n) where
+    (is_made : (v : V) (n : ℕ) → (made v ≡ Some n) ↔ (GetsConstant (Some f) k v n × In v (uses_in (Some f)))) where
   abbrev r : V → Place
   r = place_name same law (Some f)
 
@@ -168,9 +184,45 @@ module _ {V : Type 0} (same : V → V → Bool) (law : IsSameness same) (f : Fun
         g.runs g.known g.stands at.is q.2)
         g.place
 
-    pub made_agrees : made_of all_wanted G l (r v) ≡ made v
+    -- it has a use by its name exactly where it has one by its place
+    used_placed : In v (uses_in (Some f)) → used_wanted G (r v) ≡ true
+    used_placed i =
+        let among : Has (r v) (blocks_operands (map (place_block r) f)) =
+        subst (Has (r v)) (sym (blocks_uses r f)) (has-map r v (blocks_operands f) (in_to_has v (blocks_operands f) i)) in
+        in_is same_place place_law (r v) (blocks_operands (map (place_block r) f))
+        (has_to_in (r v) (blocks_operands (map (place_block r) f)) among)
+
+    placed_used : used_wanted G (r v) ≡ true → In v (uses_in (Some f))
+    placed_used e =
+        let i = is_in_in same_place place_law (r v) (blocks_operands (map (place_block r) f)) e in
+        let among : Has (r v) (map r (blocks_operands f)) =
+        subst (Has (r v)) (blocks_uses r f) (in_to_has (r v) (blocks_operands (map (place_block r) f)) i) in
+        let m = has-from_map r (r v) (blocks_operands f) among in
+        let u = user_of m.it f m.stands in
+        let stands : In u.op (left_in (Some f) u.b 0) =
+        subst (λ o. In u.op (ops_left o 0)) (sym u.at) (has_to_in u.op u.k.ops u.stands) in
+        let other : HasPlace same (Some f) m.it =
+        use_named (HasPlace same (Some f)) AnyBlock m.it u.op (left_in (Some f) u.b 0) (defined.ops u.b) stands
+        (has_to_in m.it (operands u.op) u.operand) in
+        let here = stands_at v h in
+        let there = stands_at m.it other in
+        let at : h.0 ≡ other.0 = sym here.1 ∙ sym m.is ∙ there.1 in
+        let one : v ≡ m.it = some_same v m.it (sym here.0 ∙ ap (name_at (Some f)) at ∙ there.0) in
+        subst (λ x. In x (uses_in (Some f))) (sym one) (has_to_in m.it (blocks_operands f) m.stands)
+
+    pub made_agrees : made_of used_wanted G l (r v) ≡ made v
     made_agrees =
-        let s = stands_at v h in
-        option_both (known_at G l (r v)) (made v)
-        (λ n e. (is_made v n).1 ((gets_both f k v n).0 (gets_at h.0 n s (ap (known_at G l) (sym s.1) ∙ e))))
-        (λ n e. back n ((gets_both f k v n).1 ((is_made v n).0 e)))
+        option_both (made_of used_wanted G l (r v)) (made v)
+        (λ n e. wanted n (used_wanted G (r v)) refl e)
+        (λ n e.
+        let g = (is_made v n).0 e in
+        ap (λ b. if b then known_at G l (r v) else None) (used_placed g.1) ∙ back n ((gets_both f k v n).1 g.0))
+      where
+        wanted : (n : ℕ) (b : Bool) → used_wanted G (r v) ≡ b → (if b then known_at G l (r v) else None) ≡ Some n →
+            made v ≡ Some n
+        wanted n false q e = absurd (cc e)
+        wanted n true q e =
+            let s = stands_at v h in (is_made v n).1 (
+              (gets_both f k v n).0 (gets_at h.0 n s (ap (known_at G l) (sym s.1) ∙ e)),
+              placed_used q,
+            )

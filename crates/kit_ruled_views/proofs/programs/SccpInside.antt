@@ -1,7 +1,7 @@
 -- Constants put into the tree of a module are put into each of its functions.
 use Rattle.std.proofs.Common.{◌≡◌, ⊎_elim, inl, inr, ℕ, Bool, true, false, List, [], ◌∷◌, ◌++◌, map, Option, Some, None}
 use Rattle.std.proofs.Common.{refl, sym, ap, ◌∙◌, subst}
-use Rattle.std.specs.Prelude.{if◌then◌else◌}
+use Rattle.std.specs.Prelude.{if◌then◌else◌, slice_get}
 use Rattle.ir_base.specs.declared.types.TypeHandle.{TypeHandle}
 use Rattle.ir_trees.specs.Names.{Names}
 use Rattle.ir_trees.specs.Renames.{names_of, rename_defined}
@@ -9,9 +9,10 @@ use Rattle.ir_trees.specs.Searched.{operation_names, heads_in}
 use Rattle.ir_trees.specs.Trees.{Defined, Head, Sort, Operations, Tree, end, operation, block, region, Root}
 use Rattle.opt_rows.specs.declared.known.Known.TheVariants.{Any}
 use Rattle.opt_rows.specs.Known.{AtOrBelow, MorePrecise}
+use Rattle.opt_trees.specs.Dce.{TreeSurroundings}
 use Rattle.opt_trees.specs.Facts.{Facts, EntriesRun, OperationClosed, IsClosed, IsMostPrecise}
 use Rattle.opt_trees.specs.Occurrences.{Has, Occurrence, BlockOccurrence, inner, occurrences_of, block_occurrences_of, at_root, defined_in}
-use Rattle.opt_trees.specs.Sccp.{Old, fresh, IsResult, IsArgument, Gets, AreMadeConstants, used_as, put_one, put_results, put_arguments, old_head, old_label, put, put_root, IsSccp}
+use Rattle.opt_trees.specs.Sccp.{Old, fresh, IsResult, IsArgument, IsUsed, Gets, AreMadeConstants, used_as, put_one, put_results, put_arguments, old_head, old_label, put, put_root, IsSccp}
 use Rattle.opt_trees.proofs.Defined.{result_defined, argument_defined, definer}
 use Rattle.opt_trees.proofs.Lists.{none_some, map-map, has-map, has-from_map}
 use Rattle.opt_trees.proofs.NoneDead.{has-left, has-right, true_false}
@@ -20,6 +21,7 @@ use Rattle.kit_ops.specs.declared.types.KitType.{KitType}
 use Rattle.kit.specs.Meaning.{kit}
 use Rattle.kit_behaviour.specs.Scopes.{is_in}
 use Rattle.kit_views.specs.FlatView.{names_in}
+use Rattle.kit_views.specs.Laws.{NothingPinned}
 use Rattle.kit_views.specs.Reading.{kit_contents}
 use Rattle.kit_views.proofs.Definers.{heads_are}
 use Rattle.kit_views.proofs.Lists.{to_distinct}
@@ -29,7 +31,7 @@ use Rattle.kit_ruled_views.proofs.programs.FactsInside.{facts_in, facts_out, in_
 use Rattle.kit_ruled_views.proofs.programs.FactsInside.{closed_up, closed_elsewhere, foreign, entries_from, entries_same}
 use Rattle.kit_ruled_views.proofs.programs.FactsInside.{op_named, block_named}
 use Rattle.kit_ruled_views.proofs.programs.Inside.{Function, up, up_block, there, block_there, block_pair, same_up}
-use Rattle.kit_ruled_views.proofs.programs.Inside.{maker_up, taker_up}
+use Rattle.kit_ruled_views.proofs.programs.Inside.{maker_up, taker_up, user_up}
 use Rattle.kit_ruled_views.proofs.programs.Lifted.{blocks_inside, one_operation}
 use Rattle.kit_ruled_views.proofs.programs.Restricted.{has_is, is_has, left_true, right_true}
 
@@ -154,6 +156,10 @@ module _ {N : Names} (told : AreTold N) (leads : TypeHandle → Option KitType) 
       (block_there {N = N} leads numbered type_at t sound o function z.it z.stands) z.value)
       (definer o.regions (at_root u) v h)
 
+  -- nothing in the function is named from outside the module
+  pub unpinned_inside : (w : TreeSurroundings N IntegerAttr) → NothingPinned w t → NothingPinned w u
+  unpinned_inside w none v h pinned = none v (defined_there v h) pinned
+
   closed_out : (l : Facts N IntegerAttr) → IsClosed kit u l → IsClosed kit t (outer_facts l)
   closed_out l c = record {
     entries = entries_from {N = N} (outer_facts l) t.regions (at_root t)
@@ -236,7 +242,8 @@ module _ {N : Names} (told : AreTold N) (leads : TypeHandle → Option KitType) 
           (sym (c.outside v (λ i. true_false (is_in told.value v (defined_in o.regions))
           (has_is told.value told.values v (defined_in o.regions) i) e))) tt
 
-  module _ (k : Facts N IntegerAttr) (made : N.value → Option IntegerAttr) (is_made : AreMadeConstants kit t k made) where
+  module _ (w : TreeSurroundings N IntegerAttr) (k : Facts N IntegerAttr) (made : N.value → Option IntegerAttr)
+      (is_made : AreMadeConstants kit w t k made) where
     abbrev made_in : N.value → Option IntegerAttr
     made_in v = if is_in told.value v (defined_in o.regions) then made v else None
 
@@ -274,8 +281,27 @@ module _ {N : Names} (told : AreTold N) (leads : TypeHandle → Option KitType) 
           argument = subst (λ (z : Bl). Has v (names_of z.label.arguments)) (sym x.2) g.argument;
         }
 
+    -- a value of the function has a use in the module exactly where it has one in the function
+    used_down : (v : N.value) → Has v (defined_in o.regions) → IsUsed w t v → IsUsed w u v
+    used_down v i g = ⊎_elim
+        (λ b.
+        let p = user_up {N = N} leads numbered type_at t sound o function b.0 v b.1 b.2.stands b.2.operand i in
+        inl (p.0, b.1, record { stands = p.1; operand = ap (λ (z : Op). slice_get z.head.operands b.1) p.2 ∙ b.2.operand }))
+        (λ q. ⊎_elim (λ h. absurd (subst (Has v) sound.no_operands h)) (λ e. inr (inr e)) q)
+        g
+
+    used_up : (v : N.value) → IsUsed w u v → IsUsed w t v
+    used_up v g = ⊎_elim
+        (λ b. inl (
+          lifted_op b.0,
+          b.1,
+          record { stands = there {N = N} leads numbered type_at t sound o function b.0 b.2.stands; operand = b.2.operand },
+        ))
+        (λ q. ⊎_elim (λ h. absurd (subst (Has v) function.sound_function.is_flat.view.no_operands h)) (λ e. inr (inr e)) q)
+        g
+
     gets_in : (v : N.value) (a : IntegerAttr) (b : Bool) → is_in told.value v (defined_in o.regions) ≡ b →
-        (if b then made v else None) ≡ Some a → Gets kit u (inner_facts k) v a
+        (if b then made v else None) ≡ Some a → Gets kit w u (inner_facts k) v a
     gets_in v a false e q = absurd (none_some a q)
     gets_in v a true e q =
         let g = is_made.gets v a q in
@@ -285,9 +311,10 @@ module _ {N : Names} (told : AreTold N) (leads : TypeHandle → Option KitType) 
           maker = g.maker;
           made_by = g.made_by;
           place = ⊎_elim (λ z. inl (result_down v i z)) (λ z. inr (argument_down v i z)) g.place;
+          used = used_down v i g.used;
         }
 
-    all_in : (v : N.value) (a : IntegerAttr) → Gets kit u (inner_facts k) v a → made_in v ≡ Some a
+    all_in : (v : N.value) (a : IntegerAttr) → Gets kit w u (inner_facts k) v a → made_in v ≡ Some a
     all_in v a g =
         let i : Has v (defined_in o.regions) =
         ⊎_elim (λ (z : IsResult kit u (inner_facts k) v). result_defined o.regions (at_root u) z.definer v z.stands
@@ -315,11 +342,12 @@ module _ {N : Names} (told : AreTold N) (leads : TypeHandle → Option KitType) 
                     (block_named {N = N} told leads numbered type_at t sound o function z.definer z.stands)) ∙ z.in_run;
                 argument = z.argument;
               })) g.place;
+          used = used_up v g.used;
         })
 
     -- constants put into the function
     pub function_sccp : IsMostPrecise kit t k → k.runs o.site.label.name ≡ true →
-        IsSccp kit u (put_root {N = N} kit made u)
+        IsSccp kit w u (put_root {N = N} kit made u)
     function_sccp best running = record {
       facts = inner_facts k;
       best = best_in k best running;

@@ -13,7 +13,7 @@ use Rattle.opt_trees.specs.Sccp.{fresh, put_root}
 use Rattle.kit_ops.specs.declared.attributes.IntegerAttr.{IntegerAttr}
 use Rattle.kit_ops.specs.declared.types.KitType.{KitType}
 use Rattle.kit.specs.Meaning.{kit}
-use Rattle.kit_behaviour.specs.ConstantPropagation.{all_wanted, made_of, sccp, IsSccpOfFunctions}
+use Rattle.kit_behaviour.specs.ConstantPropagation.{used_wanted, made_of, sccp, IsSccpOfFunctions}
 use Rattle.kit_behaviour.specs.Facts as flat
 use Rattle.kit_behaviour.specs.InsertedConstants.{OldOrNewName, Old, New, same_name, put_in, use_of}
 use Rattle.kit_behaviour.specs.Machine.{Fun, FunctionsByPath}
@@ -41,7 +41,7 @@ use Rattle.kit_ruled_views.proofs.programs.MadeByPlace.{made_agrees}
 use Rattle.kit_ruled_views.proofs.programs.NamesKept.{told_fresh, fresh_law, placed_under, one_to_one_inside}
 use Rattle.kit_ruled_views.proofs.programs.PropagationByPlace.{placed_facts, placed_best, constants_placed}
 use Rattle.kit_ruled_views.proofs.programs.PutLocated.{old_root, locate_put, locate_renamed, RunningFunction, running}
-use Rattle.kit_ruled_views.proofs.programs.SccpInside.{function_sccp}
+use Rattle.kit_ruled_views.proofs.programs.SccpInside.{function_sccp, unpinned_inside}
 
 told_as_name : {V : Type 0} (same : V → V → Bool) (x y : OldOrNewName V) →
     told_fresh same (as_name x) (as_name y) ≡ same_name same x y
@@ -101,8 +101,8 @@ module _ {N : Names} (told : AreTold N) (leads : TypeHandle → Option KitType) 
     facts_placed : flat.FunctionFacts Place
     best : flat.AreMostPreciseFacts p facts_placed
     left : HasFunctionView {N = N} told.value leads numbered (option_map out o)
-        (place_fun (same_name same_place) (replace (use_of (made_of all_wanted p facts_placed))
-        (put_in (made_of all_wanted p facts_placed) p)))
+        (place_fun (same_name same_place) (replace (use_of (made_of used_wanted p facts_placed))
+        (put_in (made_of used_wanted p facts_placed) p)))
 
   function_after : (o : Option (Root N kit_contents)) (p : Option (Fun Place)) →
       ((k : Root N kit_contents) → o ≡ Some k → RunningFunction {N = N} t facts pass.is.best.closed k) →
@@ -111,8 +111,8 @@ module _ {N : Names} (told : AreTold N) (leads : TypeHandle → Option KitType) 
       record {
         facts_placed = none_facts;
         best = subst (λ z. flat.AreMostPreciseFacts z none_facts) (sym is) none_best;
-        left = ap (λ z. place_fun (same_name same_place) (replace (use_of (made_of all_wanted z none_facts))
-            (put_in (made_of all_wanted z none_facts) z))) is;
+        left = ap (λ z. place_fun (same_name same_place) (replace (use_of (made_of used_wanted z none_facts))
+            (put_in (made_of used_wanted z none_facts) z))) is;
       }
   function_after (Some k) p at is =
       let z = at k refl in
@@ -121,17 +121,18 @@ module _ {N : Names} (told : AreTold N) (leads : TypeHandle → Option KitType) 
       let g : Fun N.value = is.0 in
       let is_flat : FlattensTo (kit_reading leads numbered) (tree_of o) g =
       subst (λ y. FlattensTo (kit_reading leads numbered) y g) (sym z.is) is.1 in
-      let own = function_sccp {N = N} told leads numbered type_at t sound o fn facts made pass.is.is_made pass.is.best
+      let own = function_sccp {N = N} told leads numbered type_at t sound o fn pass.around facts made pass.is.is_made pass.is.best
       z.runs in
       let prop : IsPropagatedView {N = N} leads numbered g (put_root {N = N} kit made (tree_of o)) =
-      views.propagated leads numbered told.value told.values told.block told.blocks type_at (tree_of o)
-      (put_root {N = N} kit made (tree_of o)) g is_flat fn.sound_function.is_typed own in
+      views.propagated leads numbered told.value told.values told.block told.blocks type_at pass.around (tree_of o)
+      (put_root {N = N} kit made (tree_of o)) g is_flat fn.sound_function.is_typed
+      (unpinned_inside {N = N} told leads numbered type_at t sound o fn pass.around pass.unpinned) own in
       let defined = flat_defined (kit_reading leads numbered) told.value value_law (tree_of o) g is_flat
       fn.sound_function.is_typed.operands in
       let by = prop.propagates in
       let rest : Fun (trees.Name N.value N.value) = map (rename_block as_name) prop.put in
       let l = placed_facts told.value value_law g defined by.facts in
-      let n = made_of all_wanted (place_fun told.value (Some g)) l in
+      let n = made_of used_wanted (place_fun told.value (Some g)) l in
       let distinct = flat_distinct (kit_reading leads numbered) (tree_of o) g is_flat in
       let agree = made_agrees told.value value_law g defined distinct by.facts by.made by.gets in
       let inside = one_to_one_inside {N = N} made pass.names t (subst (IsOneToOne pass.names) pass.is.is pass.apart) o
@@ -147,8 +148,8 @@ module _ {N : Names} (told : AreTold N) (leads : TypeHandle → Option KitType) 
           under.0,
           subst (λ y. FlattensTo (kit_reading leads numbered) y under.0)
               (ap out z.is) under.2,
-          ap (λ y. place_fun (same_name same_place) (replace (use_of (made_of all_wanted y l))
-              (put_in (made_of all_wanted y l) y))) is.2
+          ap (λ y. place_fun (same_name same_place) (replace (use_of (made_of used_wanted y l))
+              (put_in (made_of used_wanted y l) y))) is.2
               ∙ sym (constants_placed told.value value_law g defined by.made n agree)
               ∙ sym (placed_renamed (same_name told.value) same_tree as_name (told_as_name told.value)
               (replace (use_of by.made) (put_in by.made (Some g))))
@@ -162,14 +163,14 @@ module _ {N : Names} (told : AreTold N) (leads : TypeHandle → Option KitType) 
       }
 
   pub sccp_on_programs : (p : FunctionsByPath Place) → IsProgramOf {N = N} told.value leads numbered t p →
-      (q : FunctionsByPath Place) × IsProgramOf {N = N} told.value leads numbered after q × IsSccpOfFunctions all_wanted p q
+      (q : FunctionsByPath Place) × IsProgramOf {N = N} told.value leads numbered after q × IsSccpOfFunctions used_wanted p q
   sccp_on_programs p is =
       let each = λ (path : List ℕ). function_after (locate numbered (reverse path) t) (p path)
       (λ k e. running {N = N} t facts pass.is.best.closed numbered (reverse path) t (at_root t) k (λ q i. i)
       pass.is.best.closed.entries e) (is path) in (
-        sccp all_wanted (λ path. (each path).facts_placed) p,
+        sccp used_wanted (λ path. (each path).facts_placed) p,
         λ path. subst (λ z. HasFunctionView {N = N} told.value leads numbered z
-            (sccp all_wanted (λ path. (each path).facts_placed) p path)) (sym (where_after (reverse path))) (each
+            (sccp used_wanted (λ path. (each path).facts_placed) p path)) (sym (where_after (reverse path))) (each
             path).left,
         record { facts = λ path. (each path).facts_placed; best = λ path. (each path).best; is = λ path. refl },
       )

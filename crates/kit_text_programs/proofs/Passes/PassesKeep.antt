@@ -44,10 +44,12 @@ handle_tests = record { operation = same_or_not; block = same_or_not; value = sa
 
 -- one context
 module _ {N : Names} (c : Bijection TypeHandle ℕ) where
-  sccp_said : (t : Root N kit_contents) (put : Root (fresh N) kit_contents) → IsSccp kit t put →
-      IsSccp kit_said (mean_root (meanings c.to) t) (mean_root (meanings c.to) put)
-  sccp_said t put x =
-      sccp_meant (meanings c.to) (worded (integers c) kit) kit_said (kit_meant c) t put (sccp_worded (integers c) kit t put x)
+  sccp_said : (w : TreeSurroundings N IntegerAttr) (t : Root N kit_contents) (put : Root (fresh N) kit_contents) →
+      IsSccp kit w t put →
+      IsSccp kit_said (worded_around (integers c) w) (mean_root (meanings c.to) t) (mean_root (meanings c.to) put)
+  sccp_said w t put x =
+      sccp_meant (meanings c.to) (worded (integers c) kit) kit_said (kit_meant c) (worded_around (integers c) w) t put
+      (sccp_worded (integers c) kit w t put x)
 
   dce_said : (w : TreeSurroundings N IntegerAttr) (t after : Root N kit_contents) → IsDce kit w t after →
       IsDce kit_said (worded_around (integers c) w) (mean_root (meanings c.to) t) (mean_root (meanings c.to) after)
@@ -76,7 +78,10 @@ module _ (c e : Bijection TypeHandle ℕ) where
   sccp_keeps : (t u r q : KitTree) → Same t u → IsSccpNamed {N = by_handle} t r → IsSccpNamed {N = by_handle} u q → Same r q
   sccp_keeps t u r q same x y =
       let between = same_sccps kit_said handle_tests (mean_root (meanings c.to) t) (mean_root (meanings e.to) u) same
-      (mean_root (meanings c.to) x.put) (mean_root (meanings e.to) y.put) (sccp_said c t x.put x.is) (sccp_said e u y.put y.is) in
+      (worded_around (integers c) x.around) (worded_around (integers e) y.around)
+      (unpinned_said c x.around t x.unpinned) (unpinned_said e y.around u y.unpinned)
+      (mean_root (meanings c.to) x.put) (mean_root (meanings e.to) y.put) (sccp_said c x.around t x.put x.is)
+      (sccp_said e y.around u y.put y.is) in
       let here : IsSameUpToNames (mean_root (meanings c.to) x.put) (mean_root (meanings c.to) r) =
       subst (λ z. IsSameUpToNames (mean_root (meanings c.to) x.put) (mean_root (meanings c.to) z)) (sym x.same)
       (renamed_means_same (meanings c.to) x.names x.put x.apart) in
@@ -125,8 +130,8 @@ module _ (c e : Bijection TypeHandle ℕ) where
     pass_keeps : (x : Pass) (t u r q : KitTree) → Same t u → IsSoundTree {N = by_handle} leads numbered t →
         IsSoundTree {N = by_handle} others numbered u → IsTreePass {N = by_handle} x t r →
         IsTreePass {N = by_handle} x u q → Same r q
-    pass_keeps SccpPass t u r q same a b x y = sccp_keeps t u r q same x y
-    pass_keeps LeanSccpPass t u r q same a b x y = absurd x
+    pass_keeps SccpPass t u r q same a b x y = absurd x
+    pass_keeps LeanSccpPass t u r q same a b x y = sccp_keeps t u r q same x y
     pass_keeps DcePass t u r q same a b x y = dce_keeps t u r q same x y
     pass_keeps SimplifyPass t u r q same a b x y = simplify_keeps t u r q same a b x y
 

@@ -4,7 +4,7 @@ use Rattle.std.proofs.Common.{subst}
 use Rattle.ir_forest.specs.Bare.{IsBare, AreBare, AreBareArguments, IsBareTree, AreBareTrees}
 use Rattle.ir_forest.specs.Closed.{IsClosedTree, IsOperation, AreRegions, IsRegion, AreBlocks, IsBlock, AreOperations}
 use Rattle.ir_names.specs.Tree.{node, no_tree, a_tree}
-use Rattle.ir_print.specs.Pieces.{value_of_kind, list, item, operands, successor, region, leaf, name, number, width, chosen, unsigned, quoted}
+use Rattle.ir_print.specs.Pieces.{value_of_kind, list, item, operands, successor, region, leaf, name, number, width, chosen, unsigned, quoted, mark}
 use Rattle.ir_print.specs.Pieces.{ValueTree, Pieces, operation, a_region, block, Entity, entity, Entities, no_entity}
 use Rattle.ir_print.specs.Pieces.{an_entity}
 use Rattle.kit_language.specs.Language.{kit_language}
@@ -61,6 +61,7 @@ integer_bare (a_tree t (a_tree (node (leaf (name cs)) us) ts)) r h = absurd h
 integer_bare (a_tree t (a_tree (node (leaf (number m n)) us) ts)) r h = absurd h
 integer_bare (a_tree t (a_tree (node (leaf (unsigned n)) us) ts)) r h = absurd h
 integer_bare (a_tree t (a_tree (node (leaf (quoted cs)) us) ts)) r h = absurd h
+integer_bare (a_tree t (a_tree (node (leaf (mark n)) us) ts)) r h = absurd h
 
 constant_bare : (ts : Pieces) → AllBare (constant_types ts)
 constant_bare no_tree r h = absurd h

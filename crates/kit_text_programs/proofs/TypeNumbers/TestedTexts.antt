@@ -5,7 +5,7 @@ use Rattle.ir_names.specs.declared.kinds.Signedness.TheVariants.{Signless, Signe
 use Rattle.ir_names.specs.Tree.{node, no_tree, a_tree}
 use Rattle.ir_print.specs.declared.format.ValueSort.{ValueSort}
 use Rattle.ir_print.specs.declared.format.ValueSort.TheVariants as sorts
-use Rattle.ir_print.specs.Pieces.{Leaf, name, number, width, Piece, value_of_kind, list, item, operands, successor, region, leaf, chosen, unsigned, quoted}
+use Rattle.ir_print.specs.Pieces.{Leaf, name, number, width, Piece, value_of_kind, list, item, operands, successor, region, leaf, chosen, unsigned, quoted, mark}
 use Rattle.ir_print.specs.Pieces.{ValueTree, Pieces}
 
 -- two of these are the same or not
@@ -73,6 +73,8 @@ leaf_test (width s m) (width t n) = by_parts width s t m n (λ e. cc) (λ e. cc)
 leaf_test (width s m) _ = inr (λ e. cc)
 leaf_test (quoted ms) (quoted ns) = by_part quoted ms ns (λ e. cc) (numbers_test ms ns)
 leaf_test (quoted ms) _ = inr (λ e. cc)
+leaf_test (mark m) (mark n) = by_part mark m n (λ e. cc) (number_test m n)
+leaf_test (mark m) _ = inr (λ e. cc)
 
 -- pieces
 piece_test : (p q : Piece) → Tested p q

@@ -18,7 +18,7 @@ returns-clause-can_read c =
     let rules = ap (λ (v : Vec Rule Global). plain_rules v.items) c.in_ok-grammar.ensures.rules ∙ c.in_ok-words.ensures.rules in
     let signs : plain_classes c.in_ok-grammar.grammar.signs.items ≡ classes_of (texts words)
     = rw c.deref.ensures.value at c.in_ok-grammar.ensures.signs in
-    let parts : map plain_facts c.in_ok-grammar.grammar.parts.items ≡ map (dense (length words + 7)) table
+    let parts : map plain_facts c.in_ok-grammar.grammar.parts.items ≡ map (dense (length words + 8)) table
     = rw c.deref.ensures.value at c.in_ok-grammar.ensures.parts in
     can_read_given _ (formats_of c.args.kinds.now) words table _ rules (signs ∙ ap classes_of spelled) parts spelled refl c.requires.table
 

@@ -5,6 +5,7 @@ use Rattle.opt_dialect.specs.Statuses.{either}
 use Rattle.opt_inside.specs.Edges.{FitsEdgesBelow, HasLocalEdgesBelow}
 use Rattle.opt_inside.specs.reach.Edges.{FitsEdgesFrom, HasLocalEdgesFrom}
 use Rattle.opt_inside.specs.declared.reach.starts.Start.TheVariants.{Operation as AtOperation}
+use Rattle.opt_handles.proofs.Handles.{handles_twice}
 use Rattle.ir_opts.proofs.ThreePhases.{is_there, begins, nothing_done, removing_stops, joining_stops}
 use Rattle.ir_opts.proofs.WholeTrees.{tree_simplified}
 use Rattle.ir_opts.proofs.control_flow.simplify_cfg.Goals as goal
@@ -93,3 +94,20 @@ pub returns-clause-tree : goal.returns-clause-tree
 returns-clause-tree g c =
     tree_simplified g.D.Meanings.meaning c.args.ctx.now.program c.merge_chains.new.ctx.program c.args.op
     (returns-clause-simplified g c)
+
+pub returns-in_err-remove_unreached-clause-handles : goal.returns-in_err-remove_unreached-clause-handles
+returns-in_err-remove_unreached-clause-handles g c =
+    handles_twice c.args.ctx.now.program c.decide_branches.new.ctx.program c.remove_unreached.new.ctx.program c.args.op
+    c.decide_branches.ensures.handles c.remove_unreached.ensures.handles
+
+pub returns-in_err-merge_chains-clause-handles : goal.returns-in_err-merge_chains-clause-handles
+returns-in_err-merge_chains-clause-handles g c =
+    handles_twice c.args.ctx.now.program c.remove_unreached.new.ctx.program c.merge_chains.new.ctx.program c.args.op
+    (handles_twice c.args.ctx.now.program c.decide_branches.new.ctx.program c.remove_unreached.new.ctx.program c.args.op
+    c.decide_branches.ensures.handles c.remove_unreached.ensures.handles) c.merge_chains.ensures.handles
+
+pub returns-clause-handles : goal.returns-clause-handles
+returns-clause-handles g c =
+    handles_twice c.args.ctx.now.program c.remove_unreached.new.ctx.program c.merge_chains.new.ctx.program c.args.op
+    (handles_twice c.args.ctx.now.program c.decide_branches.new.ctx.program c.remove_unreached.new.ctx.program c.args.op
+    c.decide_branches.ensures.handles c.remove_unreached.ensures.handles) c.merge_chains.ensures.handles

@@ -25,10 +25,10 @@ loop-op-preserved c = record {
       c.in-Some.ensures.steps c.loop-op.invariant.listed;
   same = next_same (op_at c.args.ctx.now c.args.functions.now.outer)
       (λ o. rename_op (value_at c.args.values.now.keys) (block_with c.args.blocks.now.keys)
-      (operation_with c.args.functions.now.handles.items) (op_view o)) c.loop-op.yielded c.in-Some.op
+      (operation_with c.args.functions.now.handles.keys) (op_view o)) c.loop-op.yielded c.in-Some.op
       c.loop-op.instructions.items _ c.in_ok-lower_operation.field-0
       c.in_ok-push.ensures.items c.in_ok-lower_operation.ensures.seen c.loop-op.invariant.same;
-  fits = next_each (λ j o. InstructionFits (length c.args.functions.now.handles.items)
+  fits = next_each (λ j o. InstructionFits (length c.args.functions.now.handles.keys)
       (length c.args.values.now.keys) o) c.loop-op.instructions.items _ c.in_ok-lower_operation.field-0
       c.in_ok-push.ensures.items c.loop-op.invariant.fits c.in_ok-lower_operation.ensures.fits;
   inside = next_each (λ j o. TargetsAreInside (length c.args.blocks.now.keys) o) c.loop-op.instructions.items _

@@ -13,9 +13,9 @@ invariant-loop-op l = record {
   listed : l.yielded ++ l.op-iterator ≡ operations_in l.fn.ctx.program l.fn.block;
   same : map (op_at l.fn.ctx l.fn.functions.outer) l.yielded ≡ map
       (λ o. rename_op (value_at l.fn.values.keys) (block_with l.fn.blocks.keys)
-      (operation_with l.fn.functions.handles.items) (op_view o)) l.instructions.items;
+      (operation_with l.fn.functions.handles.keys) (op_view o)) l.instructions.items;
   fits : (j : ℕ) (o : Instruction) → slice_get l.instructions.items j ≡ Some o
-      → InstructionFits (length l.fn.functions.handles.items) (length l.fn.values.keys) o;
+      → InstructionFits (length l.fn.functions.handles.keys) (length l.fn.values.keys) o;
   inside : (j : ℕ) (o : Instruction) → slice_get l.instructions.items j ≡ Some o
       → TargetsAreInside (length l.fn.blocks.keys) o;
 }

@@ -12,7 +12,7 @@ use Rattle.kit_interpreter.proofs.lowering.lower_blocks.Goals as goal
 pub loop-i-preserved : goal.loop-i-preserved
 loop-i-preserved c =
     let lowers = LowersBlock c.args.ctx.now c.args.functions.now.outer c.args.values.now.keys c.args.blocks.now.keys
-    c.args.functions.now.handles.items in
+    c.args.functions.now.handles.keys in
     let is = get_or_from_slice_get c.args.blocks.now.keys c.loop-i.i c.in-Some.block.now no_handle
     (sym c.in-Some.ensures.key) in
     let at = ap (block_with c.args.blocks.now.keys) c.loop-i.invariant.len ∙ is in

@@ -8,6 +8,6 @@ abbrev pub invariant-loop-i : goal.invariant-loop-i
 invariant-loop-i l = record {
   len : length l.lowered.items ≡ l.i;
   each : (i : ℕ) (x : FlatBlock) → slice_get l.lowered.items i ≡ Some x
-      → LowersBlock l.ctx l.functions.outer l.values.keys l.blocks.keys l.functions.handles.items
+      → LowersBlock l.ctx l.functions.outer l.values.keys l.blocks.keys l.functions.handles.keys
       (block_with l.blocks.keys i) x;
 }

@@ -59,4 +59,4 @@ returns c =
     let f : FlatFunction = record { values = c.len.result; blocks = c.in_ok-lowered.lowered } in
     lowers_at c.args.ctx.now c.args.functions.now.outer c.args.op c.in-Some.region
     (numbers_of c.args.inside.now) c.in_ok-blocks.blocks.keys c.requires.can_run set
-    c.args.functions.now.handles.items f c.len.ensures.len c.in_ok-lowered.ensures.len c.in_ok-lowered.ensures.each
+    c.args.functions.now.handles.keys f c.len.ensures.len c.in_ok-lowered.ensures.len c.in_ok-lowered.ensures.each

@@ -8,5 +8,5 @@ abbrev pub invariant-loop-i : goal.invariant-loop-i
 invariant-loop-i l = record {
   len : length l.lowered.items ≡ l.i;
   each : (i : ℕ) (x : FlatFunction) → slice_get l.lowered.items i ≡ Some x
-      → LowersFunction l.ctx l.functions.outer l.functions.handles.items (operation_with l.functions.handles.items i) x;
+      → LowersFunction l.ctx l.functions.outer l.functions.handles.keys (operation_with l.functions.handles.keys i) x;
 }

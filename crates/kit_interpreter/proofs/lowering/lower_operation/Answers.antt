@@ -20,7 +20,7 @@ unreachable-requires-in-None-2 c =
     ∙ ap (λ (p : KitProgram). map (block_number c.args.blocks.now.keys) (successors_at p c.args.op))
     c.program-3.ensures in
     unformed c.args.ctx.now c.args.functions.now.outer c.args.values.now.keys c.args.blocks.now.keys
-    c.args.functions.now.handles.items c.args.op c.requires.numbered c.in-Some.shape c.in-Some.ensures.form
+    c.args.functions.now.handles.keys c.args.op c.requires.numbered c.in-Some.shape c.in-Some.ensures.form
     ((λ i. op_of (form_view c.in-Some.shape) (sym r i) (sym x i) (sym b i)) ∙ o)
 
 pub returns : goal.returns
@@ -35,6 +35,6 @@ returns c =
     ∙ ap (λ (p : KitProgram). map (block_number c.args.blocks.now.keys) (successors_at p c.args.op))
     c.program-3.ensures in
     lowers c.args.ctx.now c.args.functions.now.outer c.args.values.now.keys c.args.blocks.now.keys
-    c.args.functions.now.handles.items c.args.op c.requires.numbered c.in-Some.shape c.in-Some.ensures.form
+    c.args.functions.now.handles.keys c.args.op c.requires.numbered c.in-Some.shape c.in-Some.ensures.form
     c.in-Some.ensures.fits c.in-Some-2.lowered
     ((λ i. op_of (form_view c.in-Some.shape) (sym r i) (sym x i) (sym b i)) ∙ o)

@@ -7,11 +7,24 @@ use Rattle.opt_decide.specs.Phase.{HasDecided, HasDecidedSome}
 use Rattle.opt_decide.specs.Planned.{AreDecisions}
 use Rattle.opt_decide.proofs.Carried.{none_decided, empty_list, no_empty}
 use Rattle.opt_decide.proofs.Ground.{Ground, nothing_done, part_done, branches_decided, edges_local, edges_fit, exact_none, exact_some}
+use Rattle.opt_handles.proofs.Handles.{handles_same}
+use Rattle.opt_decide.proofs.HandlesDecided.{all_handles, part_handles}
 use Rattle.opt_decide.proofs.TreesDecided.{nothing_carried, all_carried}
 use Rattle.opt_decide.proofs.deciding.decide_branches.Goals as goal
 
 pub returns-in_err-decisions-clause-part : goal.returns-in_err-decisions-clause-part
 returns-in_err-decisions-clause-part g c = on_err c.from_residual.result (nothing_done g.D.Meanings.meaning c.args.ctx.now.program c.args.ctx.now.program c.args.op)
+
+pub returns-in_err-decisions-clause-handles : goal.returns-in_err-decisions-clause-handles
+returns-in_err-decisions-clause-handles g c = handles_same c.args.ctx.now.program c.args.op
+
+pub returns-in_err-carry_out-clause-handles : goal.returns-in_err-carry_out-clause-handles
+returns-in_err-carry_out-clause-handles g c =
+    let d = g.D.Meanings.meaning in
+    let p = c.args.ctx.now.program in
+    part_handles d p c.carry_out.new.ctx.program c.args.op (part_done d p c.carry_out.new.ctx.program c.args.op c.in_ok-decisions.decisions.items
+    (subst (λ z. AreDecisions d z c.args.op c.in_ok-decisions.decisions.items) c.program-program.ensures c.in_ok-decisions.ensures)
+    (subst (HasDecidedSome d p c.carry_out.new.ctx.program) c.deref.ensures.value c.in_err-carry_out.ensures.part))
 
 pub returns-then-is_empty : goal.returns-then-is_empty
 returns-then-is_empty g c =
@@ -42,6 +55,7 @@ returns-then-is_empty g c =
       carried = nothing_carried d p op ds ground.lists are empty;
       unchanged = λ e. refl;
       error = record {};
+      handles = handles_same p op;
       types = refl;
       numbers = refl;
     }
@@ -89,6 +103,7 @@ returns g c =
       carried = all_carried d p q op ds ground.lists are some has;
       unchanged = λ e. absurd (cc);
       error = record {};
+      handles = all_handles d p q op ds are has;
       types = c.carry_out.ensures.types;
       numbers = c.carry_out.ensures.numbers;
     }

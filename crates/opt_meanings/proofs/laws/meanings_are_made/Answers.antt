@@ -5,7 +5,7 @@ use Rattle.opt_meanings.proofs.laws.meanings_are_made.Goals as goal
 
 pub returns : goal.returns
 returns g c = record {
-  sccp = λ m d e meant t after x. sccp_meant m d e meant t after x;
+  sccp = λ m d e meant w t after x. sccp_meant m d e meant w t after x;
   dce = λ m d e meant w t after x. dce_meant m d e meant w t after x;
   simplify = λ m d e meant w t after apart x. simplify_meant m e d meant w t after apart x;
 }

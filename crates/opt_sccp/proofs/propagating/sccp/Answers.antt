@@ -5,6 +5,7 @@ use Rattle.std.proofs.Common.{◌≡◌, ◌≤◌, ◌+◌, ◌^◌, Err, [], l
 use Rattle.std.specs.Prelude.{nat_eq}
 use Rattle.ir_context.specs.Known.{HasKnownTypes}
 use Rattle.ir_program.specs.Adds.{SomeCame}
+use Rattle.ir_program.proofs.made.AddSteps.{kept-erased}
 use Rattle.ir_program.proofs.made.Frames.{on_err}
 use Rattle.opt_trees.specs.Occurrences.{Has}
 use Rattle.opt_sccp.specs.Made.{PutsList}
@@ -67,3 +68,9 @@ returns-clause-propagates g c = changed_in g.D.Meanings.meaning c.args.ctx.now.p
     (subst (λ p. IsDecided g.D.Meanings.meaning p c.args.op c.in_ok-made.made.items) c.program-2.ensures c.in_ok-made.ensures.decided)
     (not_empty c.in_ok-made.made.items (ap (λ n. nat_eq n 0) (sym c.in_ok-made.made.ok.0) ∙ sym c.is_empty.ensures ∙ c.if-is_empty.false))
     (subst (λ ms. PutsList g.D.Meanings.meaning c.args.ctx.now.program c.put_constants.new.ctx.program c.args.op ms) c.deref.ensures.value c.in_ok-put_constants.ensures.put)
+
+pub returns-in_err-made-clause-erased : goal.returns-in_err-made-clause-erased
+returns-in_err-made-clause-erased g c = kept-erased c.args.ctx.now.program
+
+pub returns-then-is_empty-clause-erased : goal.returns-then-is_empty-clause-erased
+returns-then-is_empty-clause-erased g c = kept-erased c.args.ctx.now.program

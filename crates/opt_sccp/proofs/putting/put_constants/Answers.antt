@@ -6,6 +6,7 @@ use Rattle.std.proofs.Math.Seq.{take-length}
 use Rattle.std.proofs.lemmas.Option.{slice_get_read}
 use Rattle.ir_context.specs.Known.{IsKnownIn}
 use Rattle.ir_program.specs.Adds.{SomeCame}
+use Rattle.ir_program.proofs.made.AddSteps.{kept-erased, erased-then}
 use Rattle.ir_program.proofs.made.Frames.{on_err}
 use Rattle.ir_trees.proofs.ListEdited.{AreOrderly}
 use Rattle.opt_sccp.specs.Made.{PutsList}
@@ -23,6 +24,7 @@ loop-one-init g c =
       putting = begins g.D.Meanings.meaning c.args.ctx.now.program c.args.op (subst (λ p. AreOrderly p) c.program-program.ensures orderly) (subst (λ p. AreDefined p) c.program-program.ensures defined) c.args.made.now;
       types = refl;
       numbers = sym (add-zero _);
+      erased = kept-erased c.args.ctx.now.program;
     }
 
 pub put_one-requires-clause-place : goal.put_one-requires-clause-place
@@ -63,6 +65,7 @@ loop-one-preserved g c = record {
   numbers = let so_far : c.loop-one.ctx.program.counter ≡ c.args.ctx.now.program.counter + c.loop-one.one-index = c.loop-one.invariant.numbers in
       let next : c.put_one.new.ctx.program.counter ≡ c.loop-one.ctx.program.counter + 1 = c.in_ok-put_one.ensures.numbers in
       omega (arith, so_far, next);
+  erased = erased-then c.args.ctx.now.program c.loop-one.ctx.program c.put_one.new.ctx.program c.loop-one.invariant.erased c.in_ok-put_one.ensures.erased;
 }
 
 pub returns-clause-put : goal.returns-clause-put
@@ -75,3 +78,6 @@ pub returns-clause-numbers : goal.returns-clause-numbers
 returns-clause-numbers g c =
     let all : c.loop-one.one-index ≡ length c.args.made.now = omega arith in
     c.loop-one.invariant.numbers ∙ ap (λ n. c.args.ctx.now.program.counter + n) all
+
+pub returns-in_err-put_one-clause-erased : goal.returns-in_err-put_one-clause-erased
+returns-in_err-put_one-clause-erased g c = erased-then c.args.ctx.now.program c.loop-one.ctx.program c.put_one.new.ctx.program c.loop-one.invariant.erased c.in_err-put_one.ensures.erased

@@ -13,8 +13,12 @@ use Rattle.opt_sccp.proofs.wanted.made_constants.Goals.{in-Some+in_ok-push, in_d
 abbrev no_value : Value
 no_value = record { definer = ByOp no_handle; number = 0 }
 
-pub constant_for-requires : goal.constant_for-requires
-constant_for-requires g c = c.requires (get_or c.as_slice-value-items.result.now c.loop-number.number no_value)
+pub constant_for-requires-clause-live : goal.constant_for-requires-clause-live
+constant_for-requires-clause-live g c = c.requires.live (get_or c.as_slice-value-items.result.now c.loop-number.number no_value)
+    (c.loop-number.number, element c.as_slice-value-items.result.now c.args.inside.now.values.keys c.loop-number.number no_value c.loop-number-test.true c.as_slice-value-items.ensures.keys)
+
+pub constant_for-requires-clause-placed : goal.constant_for-requires-clause-placed
+constant_for-requires-clause-placed g c = c.requires.placed (get_or c.as_slice-value-items.result.now c.loop-number.number no_value)
     (c.loop-number.number, element c.as_slice-value-items.result.now c.args.inside.now.values.keys c.loop-number.number no_value c.loop-number-test.true c.as_slice-value-items.ensures.keys)
 
 pub loop-number-preserved : goal.loop-number-preserved

@@ -12,6 +12,7 @@ use Rattle.opt_inside.specs.reach.Starts.{IsStartIn}
 use Rattle.opt_simplify.specs.Refusals.{AreUnreached, LosesNone, LosesUses}
 use Rattle.opt_simplify.specs.Removed.{is_listed, ArePickedApart, NamesWithin, ErasesPickedBlocks, TakesWithin}
 use Rattle.opt_simplify.proofs.RemovedEnds.{unchanged_removed, none_unreached, some_unreached, all_removed, emptied, not_emptied}
+use Rattle.opt_simplify.proofs.RemovedErased.{handles_kept}
 use Rattle.opt_simplify.proofs.RemovedLocal.{edges_alike, edges_kept}
 use Rattle.opt_simplify.proofs.remove.remove_unreached.Goals as goal
 
@@ -55,6 +56,13 @@ returns-clause-removed g c =
     let all : AreUnreached g.D.Meanings.meaning c.args.ctx.now.program c.args.op c.args.start c.in_ok-unreached.unreached.blocks.items = subst (λ p. AreUnreached g.D.Meanings.meaning p c.args.op c.args.start c.in_ok-unreached.unreached.blocks.items) c.program-4.ensures c.in_ok-unreached.ensures.found in
     all_removed g.D.Meanings.meaning c.args.ctx.now.program lists c.args.op c.args.start c.in_ok-unreached.unreached.blocks.items all c.remove_blocks.new.ctx.program
     (subst (λ (bs : List (Ptr BasicBlock)). ErasesPickedBlocks c.args.ctx.now.program c.remove_blocks.new.ctx.program (is_listed bs)) c.deref.ensures.value c.remove_blocks.ensures.removed)
+
+pub returns-clause-handles : goal.returns-clause-handles
+returns-clause-handles g c =
+    let lists_2 : HasLists c.program-2.result.now = assumption c.know_lists.ensures in
+    let lists : HasLists c.args.ctx.now.program = subst HasLists c.program-2.ensures lists_2 in
+    handles_kept c.args.ctx.now.program c.remove_blocks.new.ctx.program lists (is_listed c.in_ok-unreached.unreached.blocks.items)
+    (subst (λ (bs : List (Ptr BasicBlock)). ErasesPickedBlocks c.args.ctx.now.program c.remove_blocks.new.ctx.program (is_listed bs)) c.deref.ensures.value c.remove_blocks.ensures.removed) c.args.op c.requires.live
 
 pub returns-clause-unchanged : goal.returns-clause-unchanged
 returns-clause-unchanged g c =

@@ -4,6 +4,6 @@ use Rattle.opt_trees.proofs.laws.sccp_renames.Goals as goal
 
 pub returns : goal.returns
 returns g c = record {
-  result = λ d r t a x. sccp_renamed d r t a x;
+  result = λ d r t a w w' says x. sccp_renamed d r w w' says t a x;
   goal = λ d r t k best names l more v user i a c ue known by. constants_renamed d r t k best names l more v user i a c ue known by;
 }

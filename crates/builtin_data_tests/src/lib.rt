@@ -1,0 +1,7 @@
+//! Tests of builtin attributes.
+#![tactic(auto)]
+
+#[cfg(test)]
+mod dicts;
+#[cfg(test)]
+mod integers;

@@ -1,0 +1,3 @@
+pub mod BuildingLemmas
+pub mod FunctionLemmas
+pub mod NameLemmas

@@ -1,0 +1,5 @@
+pub mod Summary
+pub mod BuiltinRules
+pub mod Wanted
+pub mod Faults
+pub mod Conditions

@@ -1,0 +1,3 @@
+pub mod ChosenLemmas
+pub mod Turning
+pub mod Locating

@@ -1,0 +1,6 @@
+//! Taking the locations away from an operation and from all that stands in it.
+#![tactic(auto)]
+
+mod erasing;
+
+pub use erasing::erase_locations;

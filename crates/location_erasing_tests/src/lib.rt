@@ -1,0 +1,7 @@
+//! Tests of the erasing of locations.
+#![tactic(auto)]
+
+#[cfg(test)]
+mod nested;
+#[cfg(test)]
+mod nesting;

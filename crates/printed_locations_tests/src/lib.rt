@@ -1,0 +1,5 @@
+//! Tests of the texts of locations.
+#![tactic(auto)]
+
+#[cfg(test)]
+mod locations;

@@ -1,0 +1,5 @@
+//! Tests of tokens by the public call.
+#![tactic(auto)]
+
+#[cfg(test)]
+mod tokens;

@@ -1,0 +1,4 @@
+pub mod Marks
+pub mod Taking
+pub mod Putting
+pub mod PutAndTaken

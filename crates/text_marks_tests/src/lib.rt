@@ -1,0 +1,5 @@
+//! Tests of marks by their public calls.
+#![tactic(auto)]
+
+#[cfg(test)]
+mod marks;

@@ -1,0 +1,5 @@
+//! Tests of values that are parsed, by their public calls.
+#![tactic(auto)]
+
+#[cfg(test)]
+mod values;

@@ -1,0 +1,4 @@
+pub mod Places
+pub mod Pieces
+pub mod Taking
+pub mod OneToken

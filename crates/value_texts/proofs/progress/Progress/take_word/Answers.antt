@@ -1,0 +1,8 @@
+use Rattle.std.proofs.Common.{sym, refl, ◌∙◌}
+use Rattle.value_texts.proofs.Places.{word_taken}
+use Rattle.value_texts.proofs.progress.Progress.take_word.Goals as goal
+
+pub returns : goal.returns
+returns g c =
+    let lexeme = rw c.in-Some.is at c.in_ok-token.ensures in
+    word_taken c.args.word.now c.args.self.now _ c.in-Some.token lexeme (sym c.is_given.ensures ∙ c.if-not-is_given.false) refl refl

@@ -1,0 +1,15 @@
+use Rattle.std.proofs.Common.{refl}
+use Rattle.text_streams.specs.Positions.{left}
+use Rattle.value_texts.proofs.Taking.{leaf_one}
+use Rattle.value_texts.proofs.steps.read_leaf.Goals as goal
+
+pub leaf-requires-clause-spelled : goal.leaf-requires-clause-spelled
+leaf-requires-clause-spelled g c =
+    let took = rw c.in-Some.is at c.in_ok-token.ensures in
+    (left c.in-Some.token.end, took.lexeme.next.longest.spelled)
+
+pub returns : goal.returns
+returns g c = λ s d.
+    let took = rw c.in-Some.is at c.in_ok-token.ensures in
+    leaf_one g.M.ValueMaker.formats g.M.ValueMaker.values g.M.ValueMaker.leaf_in d (g.M.ValueMaker.shows s) c.args.sort c.args.progress.now _ c.in-Some.token c.in_ok-part.part took c.in_ok-put.ensures.parts refl
+    (c.in_ok-part.ensures s)
