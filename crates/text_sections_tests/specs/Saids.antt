@@ -1,7 +1,7 @@
 -- Which attributes of the tests are printed once.
 use Rattle.std.specs.Prelude.{Bool, true, false}
-use Rattle.text_sections_tests.specs.declared.sections.Said.{Said}
-use Rattle.text_sections_tests.specs.declared.sections.Said.TheVariants.{Note, Origin}
+use Rattle.text_sections_tests.specs.declared.saids.Said.{Said}
+use Rattle.text_sections_tests.specs.declared.saids.Said.TheVariants.{Note, Origin}
 
 abbrev pub is_origin : Said → Bool
 is_origin (Note text) = false

@@ -1,5 +1,6 @@
 //! Tests of sections by their public calls.
 #![tactic(auto)]
 
+pub mod saids;
 #[cfg(test)]
 mod sections;

@@ -1,41 +1,12 @@
 //! Sections that are printed.
+use crate::saids::Said;
 use ir_hashing::TextKey;
 use ir_names::Identifier;
 use outline_tables::Outlined;
-use std::alloc::{AllocError, Global};
+use std::alloc::Global;
 use std::test::Fail;
-use text_sections::{PrintOnce, Section};
-use text_writers::{Printable, State, TextWriter};
-
-/// An attribute: a note of its own, or one of the origins, which are printed once.
-#[derive(PartialEq, Eq, Hash, Drop)]
-enum Said {
-    Note(&'static str),
-    Origin(&'static str),
-}
-
-impl PrintOnce for Said {
-    ghost use Rattle.text_sections_tests.specs.Saids.{is_origin};
-
-    ghost is_once = { λ _ it. is_origin it };
-
-    fn is_once(&self, _key: &str) -> bool {
-        matches!(self, Said::Origin(_))
-    }
-}
-
-impl<C, W: TextWriter> Printable<C, W> for Said {
-    ghost use Rattle.std.specs.Prelude.{⊤};
-
-    ghost prints = { λ _ _ _ _. ⊤ };
-
-    fn fmt(&self, _context: &C, _state: &mut State, out: &mut W) -> Result<(), AllocError> {
-        match self {
-            Said::Note(text) => out.write_text(*text),
-            Said::Origin(text) => out.write_text(*text),
-        }
-    }
-}
+use text_sections::Section;
+use text_writers::{Printable, State};
 
 /// The text of the section of items, behind the marks of these.
 fn printed(alloc: Global, items: &[Outlined<'_, Said, &'static str>]) -> Result<String, Fail> {
