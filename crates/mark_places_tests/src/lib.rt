@@ -1,0 +1,5 @@
+//! Tests of the items of marks by their public calls.
+#![tactic(auto)]
+
+#[cfg(test)]
+mod items;

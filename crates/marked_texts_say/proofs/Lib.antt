@@ -1,0 +1,2 @@
+pub mod SameTokens
+pub mod SameTrees

@@ -1,0 +1,5 @@
+pub mod StreamSteps
+pub mod MemberSteps
+pub mod EntrySteps
+pub mod SectionSteps
+pub mod CharacterSteps
