@@ -1,2 +1,3 @@
 pub mod Ids
+pub mod Listed
 pub mod Places

@@ -8,6 +8,7 @@ use Rattle.stream_tokens.specs.Lexemes.{IsLexeme}
 use Rattle.outline_values.specs.declared.values.OutlinedValue.{OutlinedValue}
 use Rattle.outline_values.specs.declared.values.OutlinedValue.TheVariants.{Names, Note, Origin, Other}
 use Rattle.outline_values.specs.Places.{GoesTo}
+use Rattle.outline_values.specs.Names.{SaysNames}
 use Rattle.outline_values.specs.Texts.{SaysText}
 
 -- the ids of the kinds that items of `kit` have
@@ -36,9 +37,9 @@ pub record IsUnderOther (from to : Position) : Type 0 where
   pub no_origin : token.text.items ≢ origin_id
   pub goes : GoesTo from to
 
--- What stands from one place up to another: the id of the value's kind, and behind it what a note or an origin says.
+-- What stands from one place up to another: the id of the value's kind, and behind it the names, or what a note or an origin says.
 abbrev pub SaysValue : Position → OutlinedValue → Position → Type 0
-SaysValue from (Names names) to = IsUnderId names_id from (λ behind. GoesTo behind to)
+SaysValue from (Names names) to = IsUnderId names_id from (λ behind. SaysNames behind names.items to)
 SaysValue from (Note text) to = IsUnderId note_id from (λ behind. SaysText behind text to)
 SaysValue from (Origin text) to = IsUnderId origin_id from (λ behind. SaysText behind text to)
 SaysValue from Other to = IsUnderOther from to

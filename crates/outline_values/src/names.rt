@@ -1,6 +1,8 @@
 //! Names.
-ghost use Rattle.std.specs.Prelude.{IfOk};
-ghost use Rattle.outline_values.specs.Places.{GoesTo, Passes};
+ghost use Rattle.std.specs.Prelude.{◌≡◌, [], IfOk};
+ghost use Rattle.ir_names.specs.Identifier.{text_of};
+ghost use Rattle.outline_values.specs.Names.{AddsName, SaysNames};
+ghost use Rattle.outline_values.specs.Places.{GoesTo};
 
 use crate::faults::{ReadFault, syntax, syntax_at};
 use crate::signs::{behind_sign, expect};
@@ -13,7 +15,9 @@ use stream_tokens::Lexeme;
 use text_streams::{Position, TextError};
 
 /// The identifier that a name is.
-fn identifier_of<'a>(alloc: Global, token: &Lexeme<'a>) -> Result<Identifier, ReadFault<'a>> {
+fn identifier_of<'a>(alloc: Global, token: &Lexeme<'a>) -> Result<Identifier, ReadFault<'a>>
+    ensures { IfOk result (λ name. text_of name ≡ token.now.text.items) }
+{
     match Identifier::from_chars(alloc, &token.text) {
         Ok(name) => Ok(name),
         Err(IdentifierError::Invalid(_)) => Err(syntax_at(token.start)),
@@ -68,7 +72,8 @@ fn read_given<'a>(
     at: Position<'a>,
     names: &mut Vec<Option<Identifier>>,
 ) -> Result<Position<'a>, ReadFault<'a>>
-    ensures { IfOk result (GoesTo at.entry) }
+    ensures adds { IfOk result (AddsName at.entry names.old.items names.new.items) }
+    ensures goes { IfOk result (GoesTo at.entry) }
 {
     if let Some(end) = behind_sign(at, '?') {
         names.push(None)?;
@@ -80,13 +85,15 @@ fn read_given<'a>(
     Ok(token.end)
 }
 
-/// Reads names and `?` in brackets, and adds them to the names so far.
+/// Reads names and `?` in brackets, and adds them to names, of which there is none so far.
 pub fn read_names<'a>(
     alloc: Global,
     at: Position<'a>,
     names: &mut Vec<Option<Identifier>>,
 ) -> Result<Position<'a>, ReadFault<'a>>
-    ensures { IfOk result (GoesTo at.entry) }
+    requires { names.old.items ≡ [] }
+    ensures says { IfOk result (SaysNames at.entry names.new.items) }
+    ensures goes { IfOk result (GoesTo at.entry) }
 {
     let start = expect(at, '[')?;
     if let Some(end) = behind_sign(start, ']') {
