@@ -1,7 +1,8 @@
 //! The program: its words and the standard streams go to [`drive`], whose answer is the exit status.
 #![tactic(auto)]
 
-use irkit_driver::{Watched, drive};
+use irkit_driver::Watched;
+use irkit_outlines::drive;
 use std::alloc::{AllocError, Global};
 use std::process::ExitCode;
 use std::{env, io};

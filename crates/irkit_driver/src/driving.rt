@@ -91,8 +91,8 @@ pub fn serve<R: Read, W: Write, F: Write>(
     status
 }
 
-/// The same, where the program ends then: to free each operation by itself would only take time.
-fn serve_last<R: Read, W: Write, F: Write>(
+/// As [`serve`], where the program ends then: to free each operation by itself would only take time.
+pub fn serve_last<R: Read, W: Write, F: Write>(
     alloc: Global,
     request: &Request,
     input: &mut Watched<R>,

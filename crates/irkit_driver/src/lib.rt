@@ -7,7 +7,7 @@
 //!   three, and a [`Context`] of [`Kit`].
 //! - [`rules`] tests the rules on a module of a context, and [`exec`] runs a function of one that keeps them.
 //! - [`serve`] makes the call that a [`Request`] asks for, tells how it ended, and gives the program's status.
-//! - [`drive`] is the program on the words of its command line, and gives its status.
+//! - [`drive`] is the program on the words of its command line, and gives its status. [`tell_refusal`] and its kin tell faults as it does.
 //! - [`laws`] are statements on the definitions alone, each proved by the contract of a function that does nothing.
 //!
 //! All read and write through [`Watched`], which remembers a failed call. Each call ends in an answer or in one
@@ -22,8 +22,9 @@ pub mod laws;
 mod reporting;
 
 pub use checking::check;
-pub use driving::{drive, serve};
+pub use driving::{drive, serve, serve_last};
 pub use executing::execute;
+pub use faults::{tell, tell_execution_fault, tell_refusal};
 pub use ir_base::GrowError;
 pub use ir_context::Context;
 pub use ir_names::Identifier;

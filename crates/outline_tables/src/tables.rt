@@ -29,8 +29,8 @@ impl<A: Drop, L: Drop> OutlineTable<A, L> {
         }
     }
 
-    /// The entry with an index.
-    fn entry(&self, index: u64) -> Option<&Entry<A, L>>
+    /// The entry with an index, if there is one.
+    pub fn entry(&self, index: u64) -> Option<&Entry<A, L>>
         ensures { option_map entry_of (option_copied result) ≡ entry_among (section_of self.now) index }
     {
         self.entries.get(&index)

@@ -111,13 +111,13 @@ front_behind cs from start depth held (t ∷ ts) r is = by (may_begin cs depth h
 pub before_reads : (cs : List ℕ) (ts : List Token) (section : Option ℕ) → ReadsAs cs 0 ts → section ≡ section_of cs ts
     → ReadsAs (front_of section cs) 0 (tokens_before section ts)
 before_reads cs ts None r is = r
-before_reads cs ts (Some start) r is = (front_behind cs 0 start 0 false ts r (sym is)).reads
+before_reads cs ts (Some start) r is = (front_behind cs 0 start 0 true ts r (sym is)).reads
 
 -- the section begins in the text
 pub section_inside : (cs : List ℕ) (ts : List Token) (section : Option ℕ) → ReadsAs cs 0 ts → section ≡ section_of cs ts
     → MatchOption section (Unit {0}) (λ start. start ≤ length cs)
 section_inside cs ts None r is = tt
-section_inside cs ts (Some start) r is = let inside : start < length cs = (front_behind cs 0 start 0 false ts r (sym is)).inside in omega arith
+section_inside cs ts (Some start) r is = let inside : start < length cs = (front_behind cs 0 start 0 true ts r (sym is)).inside in omega arith
 
 -- ---- one answer
 

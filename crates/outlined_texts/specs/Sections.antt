@@ -1,5 +1,5 @@
 -- Where the section of outlined attributes begins, by the tokens of a text.
-use Rattle.std.specs.Prelude.{ℕ, ◌+◌, ◌-◌, ◌==◌, ◌&&◌, ◌||◌, not, nat_lt, Bool, false, List, [], ◌∷◌, Option, Some, None, bytes_eq, codes, filter, take, if◌then◌else◌}
+use Rattle.std.specs.Prelude.{ℕ, ◌+◌, ◌-◌, ◌==◌, ◌&&◌, ◌||◌, not, nat_lt, Bool, true, false, List, [], ◌∷◌, Option, Some, None, bytes_eq, codes, filter, take, if◌then◌else◌}
 use Rattle.ir_tokens.specs.declared.tokens.TokenKind.{TokenKind}
 use Rattle.ir_tokens.specs.declared.tokens.TokenKind.TheVariants.{Name, Sign}
 use Rattle.ir_tokens.specs.declared.tokens.Token.{Token}
@@ -44,9 +44,10 @@ section_behind cs depth held [] = None
 section_behind cs depth held (t ∷ ts) = if may_begin cs depth held t && begins_with_colon ts then Some t.start
     else section_behind cs (braces_behind depth t.kind) (holds_name t.kind) ts
 
--- where the section of a text begins that has these tokens, if it has one
+-- Where the section of a text begins that has these tokens, if it has one. The first token of a text begins none: a name there is that
+-- of a result.
 abbrev pub section_of : List ℕ → List Token → Option ℕ
-section_of cs ts = section_behind cs 0 false ts
+section_of cs ts = section_behind cs 0 true ts
 
 -- the text before its section, all of it where there is none
 abbrev pub front_of : Option ℕ → List ℕ → List ℕ

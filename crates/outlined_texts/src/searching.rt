@@ -112,7 +112,7 @@ pub fn find_section(text: Text) -> Option<usize>
 {
     let mut search = Search {
         depth: 0,
-        held: false,
+        held: true,
         named: None,
         found: None,
     };

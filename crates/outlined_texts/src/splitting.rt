@@ -34,8 +34,8 @@ fn front_of(text: Text, section: Option<usize>) -> Text
 /// A text taken apart: the text before its section of outlined attributes, with each mark blanked by spaces, its marks, and
 /// where the section begins.
 ///
-/// The section begins at the first name `outlined_attributes` that is outside all braces, has a `:` behind it and neither
-/// `@` nor `,` before it, each as a token. Where there is none, all of the text is before it.
+/// The section begins at the first name `outlined_attributes` that is outside all braces, has a `:` behind it and a token before it,
+/// which is neither `@` nor `,`. Where there is none, all of the text is before it.
 ///
 /// The time is linear in the text.
 ///
