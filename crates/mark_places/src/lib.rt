@@ -7,6 +7,7 @@
 
 mod ends;
 mod items;
+pub mod laws;
 
 pub use ends::item_ends;
 pub use items::marked_items;

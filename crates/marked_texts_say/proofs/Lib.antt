@@ -1,2 +1,3 @@
 pub mod SameTokens
 pub mod SameTrees
+pub mod OutlinedTexts

@@ -29,7 +29,7 @@ mark_of_front cs many others t le lo hi =
     ap with_digits (range_of_front cs many (t.start + 1) t.end le lo hi)
 
 -- a front of a text has the marks of the text among its tokens
-marks_of_front : (cs : List ℕ) (many others from : ℕ) (ts : List Token) → many ≤ length cs → ReadsAs (take many cs) from ts
+pub marks_of_front : (cs : List ℕ) (many others from : ℕ) (ts : List Token) → many ≤ length cs → ReadsAs (take many cs) from ts
     → marks_behind (take many cs) others ts ≡ marks_behind cs others ts
 marks_of_front cs many others from [] le r = refl
 marks_of_front cs many others from (t ∷ ts) le r = by (is_mark t.kind) refl

@@ -1,3 +1,4 @@
 pub mod Sections
 pub mod Searching
 pub mod Splits
+pub mod Appended

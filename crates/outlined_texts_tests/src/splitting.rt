@@ -106,7 +106,7 @@ fn the_first_section_counts(rt: HostRuntime) -> Result<(), Fail> {
     let alloc = rt.alloc();
     let text = "outlined_attributes outlined_attributes: outlined_attributes: !3";
     assert!(rt; is_split(alloc, text, "outlined_attributes ", &[], Some(20))?);
-    assert!(rt; is_split(alloc, "outlined_attributes: !3", "", &[], Some(0))?);
+    assert!(rt; is_whole(alloc, "outlined_attributes: t")?);
     Ok(())
 }
 

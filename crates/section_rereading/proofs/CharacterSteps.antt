@@ -12,7 +12,7 @@ use Rattle.ir_names.proofs.Identifiers.{identifier_small}
 use Rattle.ir_outlines.specs.Section.{Entry, bracketed, single, Reference, here, at_mark, Section}
 use Rattle.ir_print.specs.Layout.{mark_text}
 use Rattle.text_sections.specs.Texts.{Token, sign, attribute, location, AddsTokens, entry_tokens, IsTokenText, line_tokens, location_tokens, members_from, reference_token, section_tokens, separator_before}
-use Rattle.section_rereading.specs.Inverse.{CanReadEntry, CanReadMembers, CanReadPlace, CanReadReference, CanReadSection, IsTextOf}
+use Rattle.section_rereading.specs.Inverse.{CanReadEntry, CanReadMembers, CanReadPlace, CanReadReference, CanReadSection, IsUtf8Of}
 use Rattle.section_rereading.specs.Printed.{characters_of, printed}
 
 -- ---- ASCII
@@ -31,10 +31,10 @@ identifier_ascii key h i = elim (cases_lt i (length key)) [
 mark_ascii : (n : ℕ) → n < 2 ^ 64 → IsAscii (mark_text n)
 mark_ascii n small = IsAscii-append (codes "!") (decimal n) (ascii_at (codes "!") refl) (IsAscii-decimal n small)
 
-ascii_text : (cs : List ℕ) → IsAscii cs → IsTextOf cs cs
+ascii_text : (cs : List ℕ) → IsAscii cs → IsUtf8Of cs cs
 ascii_text cs h = (IsUtf8-from_ascii cs h, chars-IsAscii cs h)
 
-text_more : (text more bytes others : List ℕ) → IsTextOf text bytes → IsTextOf more others → IsTextOf (text ++ more) (bytes ++ others)
+text_more : (text more bytes others : List ℕ) → IsUtf8Of text bytes → IsUtf8Of more others → IsUtf8Of (text ++ more) (bytes ++ others)
 text_more text more bytes others h g = (
   IsUtf8-append bytes others h.0 g.0,
   chars-append bytes others h.0 ∙ ap (λ (xs : List ℕ). xs ++ chars others) h.1 ∙ ap (λ (xs : List ℕ). text ++ xs) g.1,
@@ -94,28 +94,28 @@ module _ {A L : Type 0} (is_readable : A → Bool) (is_readable_place : L → Bo
   -- ---- their characters
 
   module _ (prints_attribute : A → List ℕ → Type 0) (prints_location : L → List ℕ → Type 0) (attribute_text : A → List ℕ) (location_text : L → List ℕ)
-      (attributes : (a : A) (bytes : List ℕ) → is_readable a ≡ true → prints_attribute a bytes → IsTextOf (attribute_text a) bytes)
-      (locations : (l : L) (bytes : List ℕ) → is_readable_place l ≡ true → prints_location l bytes → IsTextOf (location_text l) bytes) where
+      (attributes : (a : A) (bytes : List ℕ) → is_readable a ≡ true → prints_attribute a bytes → IsUtf8Of (attribute_text a) bytes)
+      (locations : (l : L) (bytes : List ℕ) → is_readable_place l ≡ true → prints_location l bytes → IsUtf8Of (location_text l) bytes) where
     token_text : (t : Token A L) (bytes : List ℕ) → IsPlain t → IsTokenText prints_attribute prints_location t bytes
-        → IsTextOf (characters_of attribute_text location_text t) bytes
-    token_text (sign cs) bytes plain is = subst (λ (xs : List ℕ). IsTextOf cs xs) (sym is) (ascii_text cs plain)
+        → IsUtf8Of (characters_of attribute_text location_text t) bytes
+    token_text (sign cs) bytes plain is = subst (λ (xs : List ℕ). IsUtf8Of cs xs) (sym is) (ascii_text cs plain)
     token_text (attribute a) bytes plain h = attributes a bytes plain h
     token_text (location l) bytes plain h = locations l bytes plain h
 
-    tokens_text : (ts : List (Token A L)) (old new text : List ℕ) → ArePlain ts → IsTextOf text old → AddsTokens prints_attribute prints_location old ts new
-        → IsTextOf (text ++ printed attribute_text location_text ts []) new
+    tokens_text : (ts : List (Token A L)) (old new text : List ℕ) → ArePlain ts → IsUtf8Of text old → AddsTokens prints_attribute prints_location old ts new
+        → IsUtf8Of (text ++ printed attribute_text location_text ts []) new
     tokens_text [] old new text plain h folds =
-        subst (λ (xs : List ℕ). IsTextOf (text ++ []) xs) folds (subst (λ (xs : List ℕ). IsTextOf xs old) (sym (append-nil text)) h)
+        subst (λ (xs : List ℕ). IsUtf8Of (text ++ []) xs) folds (subst (λ (xs : List ℕ). IsUtf8Of xs old) (sym (append-nil text)) h)
     tokens_text (t ∷ ts) old new text plain h (j, (bytes, holds, is), folds) =
         let characters : List ℕ = characters_of attribute_text location_text t in
-        let here : IsTextOf (text ++ characters) j =
-        subst (λ (xs : List ℕ). IsTextOf (text ++ characters) xs) (sym is) (text_more text characters old bytes h (token_text t bytes plain.0 holds)) in
-        subst (λ (xs : List ℕ). IsTextOf xs new) (append_assoc text characters (printed attribute_text location_text ts []))
+        let here : IsUtf8Of (text ++ characters) j =
+        subst (λ (xs : List ℕ). IsUtf8Of (text ++ characters) xs) (sym is) (text_more text characters old bytes h (token_text t bytes plain.0 holds)) in
+        subst (λ (xs : List ℕ). IsUtf8Of xs new) (append_assoc text characters (printed attribute_text location_text ts []))
         (tokens_text ts j new (text ++ characters) plain.1 here folds)
 
     pub section_text : (s : Section A L) (bytes : List ℕ) → CanReadSection is_readable is_readable_place s
         → AddsTokens prints_attribute prints_location [] (section_tokens s) bytes
-        → IsTextOf (printed attribute_text location_text (section_tokens s) []) bytes
+        → IsUtf8Of (printed attribute_text location_text (section_tokens s) []) bytes
     section_text s bytes good h = tokens_text (section_tokens s) [] bytes [] (plain_section s good) (ascii_text [] (ascii_at [] refl)) h
 
 -- characters behind a printed section

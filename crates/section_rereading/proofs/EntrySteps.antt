@@ -3,14 +3,14 @@ use Rattle.std.proofs.Common.{◌≡◌, ℕ, Bool, true, List, [], ◌∷◌, �
 use Rattle.std.specs.Prelude.{codes}
 use Rattle.ir_locations.specs.declared.location.Location.{Location}
 use Rattle.ir_outlines.specs.Section as sections
-use Rattle.outline_tables.specs.Tables.{entry_of}
+use Rattle.outline_tables.specs.Tables.{entry_of, members_of}
 use Rattle.outline_tables.specs.declared.entries.Entry.{Entry}
 use Rattle.outline_tables.specs.declared.entries.Entry.TheVariants.{Bracketed, Single}
 use Rattle.text_locations.specs.Locations.{At, Parser}
 use Rattle.text_outlines.specs.Entries.{ReadsEntry, ReadsPlace}
 use Rattle.text_sections.specs.Texts.{Token, sign, entry_tokens, members_from}
 use Rattle.text_streams.specs.Positions.{left}
-use Rattle.section_rereading.specs.Inverse.{AreInverse, CanReadEntry, entry_as_read}
+use Rattle.section_rereading.specs.Inverse.{AreInverse, CanReadEntry, said_entry, said_members}
 use Rattle.section_rereading.specs.Printed.{characters_of, printed}
 use Rattle.section_rereading.proofs.MemberSteps.{attribute_start, attribute_visible, members_read, skipped_to}
 use Rattle.section_rereading.proofs.StreamSteps.{sign_missing, sign_read}
@@ -21,12 +21,12 @@ pub printed_more : {A L : Type 0} (attribute_text : A → List ℕ) (location_te
 printed_more at lt [] us rest = refl
 printed_more at lt (t ∷ ts) us rest = ap (λ (cs : List ℕ). characters_of at lt t ++ cs) (printed_more at lt ts us rest)
 
-module _ {F S A L : Type 0} (parser : Parser F S A) (attribute_text : A → List ℕ) (location_text : L → List ℕ)
-    (place_of : L → Location A) (is_readable : A → Bool) (is_readable_place : L → Bool)
-    (inverse : AreInverse parser attribute_text location_text place_of is_readable is_readable_place) where
+module _ {F S A L X Y : Type 0} (parser : Parser F S A) (attribute_text : A → List ℕ) (location_text : L → List ℕ)
+    (says : A → X) (says_place : Location A → Y) (prints_place : L → Y) (is_readable : A → Bool) (is_readable_place : L → Bool)
+    (inverse : AreInverse parser attribute_text location_text says says_place prints_place is_readable is_readable_place) where
   -- a location in brackets, and the `[` of the members
   place_read : (v w : At F S) (m : Location A) (l : L) (cs : List ℕ) → is_readable_place l ≡ true
-      → left v.1.position ≡ 91 ∷ (location_text l ++ 93 ∷ 44 ∷ 32 ∷ 91 ∷ cs) → ReadsPlace parser v m w → (m ≡ place_of l) × (left w.1.position ≡ cs)
+      → left v.1.position ≡ 91 ∷ (location_text l ++ 93 ∷ 44 ∷ 32 ∷ 91 ∷ cs) → ReadsPlace parser v m w → (says_place m ≡ prints_place l) × (left w.1.position ≡ cs)
   place_read v w m l cs good is h =
       let opened = sign_read 91 v.1 h.opened.1 [] 91 (location_text l ++ 93 ∷ 44 ∷ 32 ∷ 91 ∷ cs) h.opens.0 is refl refl in
       let start = skipped_to h.opened.1 h.start.1 [] (location_text l) (93 ∷ 44 ∷ 32 ∷ 91 ∷ cs) h.spaces.0 opened.1 refl (inverse.location_begins l good) in
@@ -47,12 +47,12 @@ module _ {F S A L : Type 0} (parser : Parser F S A) (attribute_text : A → List
 
   pub entry_read : (v w : At F S) (item : Entry A (Location A)) (e : sections.Entry A L) (cs : List ℕ) → CanReadEntry is_readable is_readable_place e
       → left v.1.position ≡ 32 ∷ printed attribute_text location_text (entry_tokens e) (10 ∷ cs) → ReadsEntry parser v item w
-      → (entry_of item ≡ entry_as_read place_of e) × (left w.1.position ≡ 10 ∷ cs)
+      → (said_entry says says_place (entry_of item) ≡ said_entry says prints_place e) × (left w.1.position ≡ 10 ∷ cs)
   unfolding text_of_members
   entry_read v w (Bracketed None attributes) (sections.bracketed None ms) cs good is (behind, front, members) =
       let opened = sign_read 91 v.1 behind.1 (32 ∷ []) 91 (text_of_members ms cs) front.1.0 is refl refl in
-      let got = members_read parser attribute_text location_text place_of is_readable is_readable_place inverse ms attributes.items behind w (10 ∷ cs) good.1 (opened.1 ∙ members_text ms cs) members in
-      (ap (λ (xs : List (List ℕ × sections.Reference A)). sections.bracketed None xs) got.0, got.1)
+      let got = members_read parser attribute_text location_text says says_place prints_place is_readable is_readable_place inverse ms attributes.items behind w (10 ∷ cs) good.1 (opened.1 ∙ members_text ms cs) members in
+      (ap (λ (xs : List (List ℕ × sections.Reference X)). sections.bracketed None xs) got.0, got.1)
   entry_read v w (Bracketed None attributes) (sections.bracketed (Some l) ms) cs good is (behind, front, members) =
       absurd (sign_missing 64 v.1 (32 ∷ []) 64 _ front.0 is refl refl refl)
   entry_read v w (Bracketed None attributes) (sections.single a) cs good is (behind, front, members) =
@@ -65,9 +65,9 @@ module _ {F S A L : Type 0} (parser : Parser F S A) (attribute_text : A → List
   entry_read v w (Bracketed (Some location) attributes) (sections.bracketed (Some l) ms) cs good is (behind, (b, takes, place), members) =
       let opened = sign_read 64 v.1 b.1 (32 ∷ []) 64 _ takes.0 is refl refl in
       let placed = place_read b behind location l (text_of_members ms cs) good.0 opened.1 place in
-      let got = members_read parser attribute_text location_text place_of is_readable is_readable_place inverse ms attributes.items behind w (10 ∷ cs) good.1 (placed.1 ∙ members_text ms cs) members in (
-        ap (λ (m : Location A). entry_of (Bracketed (Some m) attributes)) placed.0
-            ∙ ap (λ (xs : List (List ℕ × sections.Reference A)). sections.bracketed (Some (place_of l)) xs) got.0,
+      let got = members_read parser attribute_text location_text says says_place prints_place is_readable is_readable_place inverse ms attributes.items behind w (10 ∷ cs) good.1 (placed.1 ∙ members_text ms cs) members in (
+        ap (λ (y : Y). sections.bracketed (Some y) (said_members says (members_of attributes.items))) placed.0
+            ∙ ap (λ (xs : List (List ℕ × sections.Reference X)). sections.bracketed (Some (prints_place l)) xs) got.0,
         got.1,
       )
   entry_read v w (Bracketed (Some location) attributes) (sections.single a) cs good is (behind, (b, takes, place), members) =

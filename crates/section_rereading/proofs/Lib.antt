@@ -3,3 +3,5 @@ pub mod MemberSteps
 pub mod EntrySteps
 pub mod SectionSteps
 pub mod CharacterSteps
+pub mod PlaceSteps
+pub mod PrintedPlaces

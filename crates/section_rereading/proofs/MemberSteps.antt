@@ -19,7 +19,7 @@ use Rattle.text_sections.specs.Texts.{members_from, reference_token}
 use Rattle.text_streams.specs.declared.stream.StateStream.{StateStream}
 use Rattle.text_streams.specs.Positions.{left}
 use Rattle.text_streams.specs.Spaces.{SkipsSpaces}
-use Rattle.section_rereading.specs.Inverse.{AreInverse, begins_attribute, begins_visibly, CanReadMembers, CanReadReference, ends_attribute}
+use Rattle.section_rereading.specs.Inverse.{AreInverse, begins_attribute, begins_visibly, CanReadMembers, CanReadReference, ends_attribute, said_member, said_members, said_reference}
 use Rattle.section_rereading.specs.Printed.{characters_of, printed}
 use Rattle.section_rereading.proofs.StreamSteps.{first_visible, mark_read, name_read, sign_missing, sign_read, skipped}
 
@@ -95,9 +95,9 @@ not_at_name old new (k ∷ ks) rest h is good =
     let there = sign_read 93 old new [] k (ks ++ rest) h is refl (first_visible k first) in
     clash (is_first_code k) first (ap is_first_code there.0)
 
-module _ {F S A L : Type 0} (parser : Parser F S A) (attribute_text : A → List ℕ) (location_text : L → List ℕ)
-    (place_of : L → Location A) (is_readable : A → Bool) (is_readable_place : L → Bool)
-    (inverse : AreInverse parser attribute_text location_text place_of is_readable is_readable_place) where
+module _ {F S A L X Y : Type 0} (parser : Parser F S A) (attribute_text : A → List ℕ) (location_text : L → List ℕ)
+    (says : A → X) (says_place : Location A → Y) (prints_place : L → Y) (is_readable : A → Bool) (is_readable_place : L → Bool)
+    (inverse : AreInverse parser attribute_text location_text says says_place prints_place is_readable is_readable_place) where
   -- ---- what stands under a key
 
   reference_text : sections.Reference A → List ℕ
@@ -109,7 +109,7 @@ module _ {F S A L : Type 0} (parser : Parser F S A) (attribute_text : A → List
   reference_visible (sections.at_mark n) good = refl
 
   reference_read : (v w : At F S) (r : Reference A) (e : sections.Reference A) (c : ℕ) (cs : List ℕ) → CanReadReference is_readable e → ends_attribute c ≡ true
-      → left v.1.position ≡ reference_text e ++ c ∷ cs → ReadsReference parser v r w → (reference_of r ≡ e) × (left w.1.position ≡ c ∷ cs)
+      → left v.1.position ≡ reference_text e ++ c ∷ cs → ReadsReference parser v r w → (said_reference says (reference_of r) ≡ said_reference says e) × (left w.1.position ≡ c ∷ cs)
   unfolding reference_text
   reference_read v w (Here b) (sections.here a) c cs good ends is h =
       let got = inverse.attribute_read v w a b c cs good ends is h.1 in
@@ -129,14 +129,14 @@ module _ {F S A L : Type 0} (parser : Parser F S A) (attribute_text : A → List
   member_read : (p q : Among F S) (m : Identifier × Reference A) (e : List ℕ × sections.Reference A) (spaces : List ℕ) (c : ℕ) (cs : List ℕ)
       → is_identifier e.0 ≡ true → CanReadReference is_readable e.1 → ends_attribute c ≡ true → list_all is_whitespace spaces ≡ true
       → left p.1.1.position ≡ spaces ++ (e.0 ++ 32 ∷ 61 ∷ 32 ∷ (reference_text e.1 ++ c ∷ cs)) → ReadsMember parser p m q
-      → (member_of m ≡ e) × (left q.1.1.position ≡ c ∷ cs)
+      → (said_member says (member_of m) ≡ said_member says e) × (left q.1.1.position ≡ c ∷ cs)
   member_read p q m e spaces c cs named good ends all is h =
       let here = skipped_to p.1.1 h.key.here spaces e.0 (32 ∷ 61 ∷ 32 ∷ (reference_text e.1 ++ c ∷ cs)) h.key.spaces is all (identifier_visible e.0 named) in
       let name = name_read h.key.here h.behind_key m.0 e.0 32 (61 ∷ 32 ∷ (reference_text e.1 ++ c ∷ cs)) h.key.name_read here named refl in
       let equals = sign_read 61 h.behind_key h.behind_sign (32 ∷ []) 61 (32 ∷ (reference_text e.1 ++ c ∷ cs)) h.equals name.1 refl refl in
       let start = skipped_to h.behind_sign h.start (32 ∷ []) (reference_text e.1) (c ∷ cs) h.spaces equals.1 refl (reference_visible e.1 good) in
       let reference = reference_read (p.1.0, h.start) q.1 m.1 e.1 c cs good ends start h.reference in
-      (ap (λ (key : List ℕ). (key, reference_of m.1)) name.0 ∙ ap (λ (r : sections.Reference A). (e.0, r)) reference.0, reference.1)
+      (ap (λ (key : List ℕ). (key, said_reference says (reference_of m.1))) name.0 ∙ ap (λ (r : sections.Reference X). (e.0, r)) reference.0, reference.1)
 
   text_behind : List (List ℕ × sections.Reference A) → List ℕ → List ℕ
   text_behind es cs = printed attribute_text location_text (members_from false es) (93 ∷ cs)
@@ -146,13 +146,13 @@ module _ {F S A L : Type 0} (parser : Parser F S A) (attribute_text : A → List
       (p at end : Among F S) (w : At F S) (spaces cs : List ℕ) → CanReadMembers is_readable (e ∷ es) → list_all is_whitespace spaces ≡ true
       → left p.1.1.position ≡ spaces ++ (e.0 ++ 32 ∷ 61 ∷ 32 ∷ (reference_text e.1 ++ text_behind es cs))
       → FoldsTo (ReadsNext parser) p others at → ReadsMember parser at last end → Takes 93 end.1 w
-      → (members_of (others ++ last ∷ []) ≡ e ∷ es) × (left w.1.position ≡ cs)
+      → (said_members says (members_of (others ++ last ∷ [])) ≡ said_members says (e ∷ es)) × (left w.1.position ≡ cs)
   unfolding reference_text text_behind
   some_read [] e [] last p at end w spaces cs good all is folds h closes =
       let here = ap (λ (q : Among F S). left q.1.1.position) (sym folds) ∙ is in
       let got = member_read at end last e spaces 93 cs good.0 good.1 refl all here h in
       let closed = sign_read 93 end.1.1 w.1 [] 93 cs closes.0 got.1 refl refl in
-      (ap (λ (m : List ℕ × sections.Reference A). m ∷ []) got.0, closed.1)
+      (ap (λ (m : List ℕ × sections.Reference X). m ∷ []) got.0, closed.1)
   some_read [] e (o ∷ os) last p at end w spaces cs good all is (j, next, folds) h closes =
       let got = member_read p (j.0, next.end) o e spaces 93 cs good.0 good.1 refl all is next.member_read in
       let comma = sign_read 44 next.end.1 j.1.1 [] 93 cs next.comma.0 got.1 refl refl in
@@ -166,16 +166,16 @@ module _ {F S A L : Type 0} (parser : Parser F S A) (attribute_text : A → List
       let got = member_read p (j.0, next.end) o e spaces 44 _ good.0 good.1 refl all is next.member_read in
       let comma = sign_read 44 next.end.1 j.1.1 [] 44 _ next.comma.0 got.1 refl refl in
       let more = some_read fs f os last j at end w (32 ∷ []) cs good.2 refl comma.1 folds h closes in
-      (ap (λ (m : List ℕ × sections.Reference A). m ∷ members_of (os ++ last ∷ [])) got.0 ∙ ap (λ (ms : List (List ℕ × sections.Reference A)). e ∷ ms) more.0, more.1)
+      (ap (λ (m : List ℕ × sections.Reference X). m ∷ said_members says (members_of (os ++ last ∷ []))) got.0 ∙ ap (λ (ms : List (List ℕ × sections.Reference X)). said_member says e ∷ ms) more.0, more.1)
 
   pub members_read : (es : List (List ℕ × sections.Reference A)) (members : List (Identifier × Reference A)) (v w : At F S) (cs : List ℕ) → CanReadMembers is_readable es
       → left v.1.position ≡ printed attribute_text location_text (members_from true es) (93 ∷ cs) → ReadsMembers parser v members w
-      → (members_of members ≡ es) × (left w.1.position ≡ cs)
+      → (said_members says (members_of members) ≡ said_members says es) × (left w.1.position ≡ cs)
   unfolding reference_text text_behind
   members_read [] members v w cs good is (inl (none, closes)) =
-      (ap members_of none, (sign_read 93 v.1 w.1 [] 93 cs closes.0 is refl refl).1)
+      (ap (λ (ms : List (Identifier × Reference A)). said_members says (members_of ms)) none, (sign_read 93 v.1 w.1 [] 93 cs closes.0 is refl refl).1)
   members_read [] members v w cs good is (inr some) = absurd (sign_missing 93 v.1 [] 93 cs some.without is refl refl refl)
   members_read (e ∷ es) members v w cs good is (inl (none, closes)) = absurd (not_at_name v.1 w.1 e.0 _ closes.0 is good.0)
   members_read (e ∷ es) members v w cs good is (inr some) =
       let got = some_read es e some.others some.last ([], v) some.at some.end w [] cs good refl is some.others_read some.last_read some.closes in
-      (ap members_of some.all ∙ got.0, got.1)
+      (ap (λ (ms : List (Identifier × Reference A)). said_members says (members_of ms)) some.all ∙ got.0, got.1)

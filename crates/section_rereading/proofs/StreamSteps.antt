@@ -77,7 +77,7 @@ sign_missing sign old spaces c cs h is all stop same =
 
 -- ---- marks
 
-digits_pass : (ds : List ℕ) → AllDigits 10 ds → list_all (λ c. is_digit c 10) ds ≡ true
+pub digits_pass : (ds : List ℕ) → AllDigits 10 ds → list_all (λ c. is_digit c 10) ds ≡ true
 digits_pass [] h = refl
 digits_pass (d ∷ ds) h = rw (lt-ltb _ 10 h.0, digits_pass ds h.1) refl
 
@@ -96,7 +96,7 @@ number_there (d ∷ ds) c cs h stop =
     not_minus : (d : ℕ) → is_digit d 10 ≡ true → (d == 45) ≡ false
     not_minus d h = grind (arith, nat_tests)
 
-same_Ok : {E : Type 0} (x y : ℕ) → ◌≡◌ {A = Result ℕ E} (Ok x) (Ok y) → x ≡ y
+pub same_Ok : {E : Type 0} (x y : ℕ) → ◌≡◌ {A = Result ℕ E} (Ok x) (Ok y) → x ≡ y
 same_Ok x y e = cc
 
 -- a mark that was read is the one that was printed

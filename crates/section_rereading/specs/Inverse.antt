@@ -26,16 +26,17 @@ begins_attribute (c ∷ cs) = not (is_whitespace c || ((c == 33) || ((c == 64) |
 abbrev pub behind_spaces : List ℕ → List ℕ
 behind_spaces cs = drop (prefix_len is_whitespace cs) cs
 
--- Where the parser answers at the text of an attribute that can be read again, it answers that attribute, and is right behind
--- the text; the same of locations, as they are read with this parser. What is printed as a location is one by `place_of`.
-pub record AreInverse {F S A L : Type 0} (parser : Parser F S A) (attribute_text : A → List ℕ) (location_text : L → List ℕ)
-    (place_of : L → Location A) (is_readable : A → Bool) (is_readable_place : L → Bool) : Type 0 where
+-- Where the parser answers at the text of an attribute that can be read again, it answers one that says the same, and is right
+-- behind the text; the same of locations, as they are read with this parser, which may be of another type than those printed.
+pub record AreInverse {F S A L X Y : Type 0} (parser : Parser F S A) (attribute_text : A → List ℕ) (location_text : L → List ℕ)
+    (says : A → X) (says_place : Location A → Y) (prints_place : L → Y) (is_readable : A → Bool) (is_readable_place : L → Bool) : Type 0 where
   pub attribute_begins : (a : A) → is_readable a ≡ true → begins_attribute (attribute_text a) ≡ true
   pub attribute_read : (v w : At F S) (a b : A) (c : ℕ) (cs : List ℕ) → is_readable a ≡ true → ends_attribute c ≡ true
-      → left v.1.position ≡ attribute_text a ++ c ∷ cs → Answers parser v (Ok b) w → (b ≡ a) × (left w.1.position ≡ c ∷ cs)
+      → left v.1.position ≡ attribute_text a ++ c ∷ cs → Answers parser v (Ok b) w → (says b ≡ says a) × (left w.1.position ≡ c ∷ cs)
   pub location_begins : (l : L) → is_readable_place l ≡ true → begins_visibly (location_text l) ≡ true
   pub location_read : (v w : At F S) (l : L) (m : Location A) (cs : List ℕ) → is_readable_place l ≡ true
-      → left v.1.position ≡ location_text l ++ 93 ∷ cs → ReadsLocation parser 64 v m w → (m ≡ place_of l) × (left w.1.position ≡ 93 ∷ cs)
+      → left v.1.position ≡ location_text l ++ 93 ∷ cs → ReadsLocation parser 64 v m w
+      → (says_place m ≡ prints_place l) × (left w.1.position ≡ 93 ∷ cs)
 
 module _ {A : Type 0} (is_readable : A → Bool) where
   -- what stands under a key can be read again: a mark whose number is below 2^64, or an attribute that can
@@ -64,17 +65,29 @@ module _ {A L : Type 0} (is_readable : A → Bool) (is_readable_place : L → Bo
   CanReadSection [] = Unit {0}
   CanReadSection (e ∷ es) = (e.0 < 2 ^ 64) × CanReadEntry e.1 × CanReadSection es
 
-module _ {A L M : Type 0} (place_of : L → M) where
-  -- an entry as it is read: with the location that is printed
-  abbrev pub entry_as_read : Entry A L → Entry A M
-  entry_as_read (bracketed None ms) = bracketed None ms
-  entry_as_read (bracketed (Some l) ms) = bracketed (Some (place_of l)) ms
-  entry_as_read (single a) = single a
+-- ---- what is said
 
-  -- a section as it is read
-  abbrev pub section_as_read : Section A L → Section A M
-  section_as_read s = map (λ e. (e.0, entry_as_read e.1)) s
+-- what stands under a key, with what an attribute says in its place
+abbrev pub said_reference : {A X : Type 0} → (A → X) → Reference A → Reference X
+said_reference says (here a) = here (says a)
+said_reference says (at_mark n) = at_mark n
+
+abbrev pub said_member : {A X : Type 0} → (A → X) → List ℕ × Reference A → List ℕ × Reference X
+said_member says m = (m.0, said_reference says m.1)
+
+abbrev pub said_members : {A X : Type 0} → (A → X) → List (List ℕ × Reference A) → List (List ℕ × Reference X)
+said_members says ms = map (said_member says) ms
+
+-- an entry, with what attributes and locations say in their places
+abbrev pub said_entry : {A L X Y : Type 0} → (A → X) → (L → Y) → Entry A L → Entry X Y
+said_entry says says_place (bracketed None ms) = bracketed None (said_members says ms)
+said_entry says says_place (bracketed (Some l) ms) = bracketed (Some (says_place l)) (said_members says ms)
+said_entry says says_place (single a) = single (says a)
+
+-- a section, the same
+abbrev pub said_section : {A L X Y : Type 0} → (A → X) → (L → Y) → Section A L → Section X Y
+said_section says says_place s = map (λ e. (e.0, said_entry says says_place e.1)) s
 
 -- The bytes are UTF-8 of these characters.
-abbrev pub IsTextOf : List ℕ → List ℕ → Type 0
-IsTextOf text bytes = IsUtf8 bytes × (chars bytes ≡ text)
+abbrev pub IsUtf8Of : List ℕ → List ℕ → Type 0
+IsUtf8Of text bytes = IsUtf8 bytes × (chars bytes ≡ text)
