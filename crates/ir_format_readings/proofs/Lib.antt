@@ -1,4 +1,4 @@
 pub mod Computed
-mod Follows
+pub mod Follows
 mod NextTokens
 mod OneReading

@@ -1,16 +1,16 @@
 -- The next token is one at which what is still to be read goes on.
-use Rattle.std.proofs.Common.{◌≡◌, ℕ, zero, suc, Bool, true, false, ◌||◌, List, [], ◌∷◌, ◌++◌, Some, refl, subst, inl, inr, codes}
+use Rattle.std.proofs.Common.{◌≡◌, ℕ, Bool, true, false, ◌||◌, List, [], ◌∷◌, ◌++◌, Some, refl, inl, inr, codes}
 use Rattle.std.specs.Prelude.{slice_get}
-use Rattle.ir_print.specs.Formats.{operands, operand, successor, a_value, symbol_name, list_of, choice_of, Steps, no_steps, step, Choices, no_choice, a_choice, alternative, Kind, Formats, kinds_of}
+use Rattle.ir_print.specs.Formats.{operands, operand, successor, a_value, symbol_name, list_of, choice_of, Steps, no_steps, step, Choices, alternative, Kind, Formats, kinds_of}
 use Rattle.ir_print.specs.declared.format.ValueSort.{ValueSort}
 use Rattle.ir_print.specs.declared.format.ValueSort.TheVariants as sorts
 use Rattle.ir_format_checks.specs.Tokens.{Column, given, a_name, takes}
-use Rattle.ir_format_checks.specs.Decided.{all_may_be_empty, one_may_be_empty, Follow, anything, these, or_next, tokens_of, all_firsts, one_firsts, next_of, CannotBeNext, IsDecided, AreDecided}
-use Rattle.ir_format_checks.proofs.Booleans.{or_left, or_right, or_cases, and_both}
+use Rattle.ir_format_checks.specs.Decided.{all_may_be_empty, Follow, anything, these, or_next, tokens_of, all_firsts, next_of, CannotBeNext, IsDecided}
+use Rattle.ir_format_checks.proofs.Booleans.{or_left, or_right, or_cases}
 use Rattle.ir_format_checks.proofs.SharedTokens.{apart}
 use Rattle.ir_format_readings.specs.Readings.{Item, column_of, Todo, rest, more, Event, names, symbol_steps, edge_steps, Derives, finished, no_step, a_word, an_operand, a_leaf_token, one_region, value, symbol, edge, several, no_member, a_member, no_more, one_more, picked}
 use Rattle.ir_format_readings.specs.Language.{IsAcceptedLanguage, allows}
-use Rattle.ir_format_readings.proofs.Follows.{or_first, or_behind, next_cases, next_first, next_behind, solid_begins, IsLess, cannot_less, less_anything, all_less}
+use Rattle.ir_format_readings.proofs.Follows.{or_first, or_behind, next_cases, next_first, next_behind, solid_begins, IsLess, cannot_less, less_anything, all_less, one_of_begins, one_of_is_empty, chosen, choice_goes, list_goes}
 
 -- ---- what is still to be read
 
@@ -27,18 +27,6 @@ AreDecidedTodos bottom (rest ss ∷ st) = IsDecided ss (nexts bottom st) × AreD
 AreDecidedTodos bottom (more m w ∷ st) = (all_may_be_empty m ≡ false) × CannotBeNext (tokens_of (given w)) (nexts bottom st)
     × IsDecided m (or_next (tokens_of (given w)) (nexts bottom st)) × AreDecidedTodos bottom st
 
--- ---- choices
-
-pub one_of_begins : (cs : Choices) (i : ℕ) (a : Steps) (x : Column) → alternative cs i ≡ Some a → all_firsts a x ≡ true → one_firsts cs x ≡ true
-one_of_begins no_choice i a x e h = cc
-one_of_begins (a_choice ss cs) zero a x e h = let k : a ≡ ss = cc in or_left _ _ (subst (λ z. all_firsts z x ≡ true) k h)
-one_of_begins (a_choice ss cs) (suc i) a x e h = or_right (all_firsts ss x) _ (one_of_begins cs i a x e h)
-
-pub one_of_is_empty : (cs : Choices) (i : ℕ) (a : Steps) → alternative cs i ≡ Some a → all_may_be_empty a ≡ true → one_may_be_empty cs ≡ true
-one_of_is_empty no_choice i a e h = cc
-one_of_is_empty (a_choice ss cs) zero a e h = let k : a ≡ ss = cc in or_left _ _ (subst (λ z. all_may_be_empty z ≡ true) k h)
-one_of_is_empty (a_choice ss cs) (suc i) a e h = or_right (all_may_be_empty ss) _ (one_of_is_empty cs i a e h)
-
 module _ (f : Formats) (good : IsAcceptedLanguage f) (bottom : Follow Column) where
   -- ---- what is to be read behind a step is decided too
 
@@ -48,11 +36,6 @@ module _ (f : Formats) (good : IsAcceptedLanguage f) (bottom : Follow Column) wh
 
   pub in_next : (m : Steps) (w : List ℕ) (st : List Todo) → AreDecidedTodos bottom (more m w ∷ st) → AreDecidedTodos bottom (rest m ∷ more m w ∷ st)
   in_next m w st d = (d.2, d)
-
-  chosen : (cs : Choices) (next : Follow Column) (i : ℕ) (a : Steps) → alternative cs i ≡ Some a → AreDecided cs next → IsDecided a next
-  chosen no_choice next i a e d = cc
-  chosen (a_choice ss cs) next zero a e d = let k : ss ≡ a = cc in subst (λ z. IsDecided z next) k d.0
-  chosen (a_choice ss cs) next (suc i) a e d = chosen cs next i a e d.3
 
   pub in_choice : (cs : Choices) (ss a : Steps) (st : List Todo) (i : ℕ) → alternative cs i ≡ Some a → AreDecidedTodos bottom (rest (step (choice_of cs) ss) ∷ st)
       → AreDecidedTodos bottom (rest a ∷ rest ss ∷ st)
@@ -105,19 +88,6 @@ module _ (f : Formats) (good : IsAcceptedLanguage f) (bottom : Follow Column) wh
     ),
     d.1,
   )
-
-  -- steps behind a choice, and what comes behind them, may be all that comes
-  choice_goes : (cs : Choices) (ss : Steps) (g : Follow Column) (x : Column) → one_may_be_empty cs ≡ true → allows (next_of ss g) x ≡ true → allows (next_of (step (choice_of cs) ss) g) x ≡ true
-  choice_goes cs ss g x e h = elim (next_cases ss g x h) [
-    | inl a ↦ next_first (step (choice_of cs) ss) g x (or_right (one_firsts cs x) _ (and_both (one_may_be_empty cs) _ e a))
-    | inr b ↦ next_behind (step (choice_of cs) ss) g x (and_both (one_may_be_empty cs) _ e b.0) b.1
-  ]
-
-  list_goes : (m : Steps) (printed w : List ℕ) (ss : Steps) (g : Follow Column) (x : Column) → allows (next_of ss g) x ≡ true → allows (next_of (step (list_of m printed w) ss) g) x ≡ true
-  list_goes m printed w ss g x h = elim (next_cases ss g x h) [
-    | inl a ↦ next_first (step (list_of m printed w) ss) g x (or_right (all_firsts m x) _ a)
-    | inr b ↦ next_behind (step (list_of m printed w) ss) g x b.0 b.1
-  ]
 
   -- a part begins as the parts that it is made of
   several_goes : (ss : Steps) (g : Follow Column) (x : Column) → allows (next_of (step names ss) g) x ≡ true → allows (next_of (step operands ss) g) x ≡ true

@@ -1,18 +1,17 @@
 -- A text is read in one way, and ends at one place.
-use Rattle.std.proofs.Common.{◌≡◌, ℕ, zero, suc, true, ◌⊎◌, List, [], ◌∷◌, ◌++◌, Some, refl, sym, ap, subst, ◌∙◌, inl, inr}
+use Rattle.std.proofs.Common.{◌≡◌, ℕ, true, ◌⊎◌, List, [], ◌∷◌, ◌++◌, Some, refl, sym, ap, subst, ◌∙◌, inl, inr}
 use Rattle.std.specs.Prelude.{slice_get}
-use Rattle.ir_print.specs.Formats.{word, operands, operand, successor, a_value, a_region, symbol_name, a_leaf, list_of, choice_of, Steps, no_steps, step, Choices, no_choice, a_choice, alternative, Kind, Formats, kinds_of}
+use Rattle.ir_print.specs.Formats.{word, operands, operand, successor, a_value, a_region, symbol_name, a_leaf, list_of, choice_of, Steps, no_steps, step, Choices, alternative, Kind, Formats, kinds_of}
 use Rattle.ir_print.specs.declared.format.ValueSort.{ValueSort}
 use Rattle.ir_print.specs.declared.format.LeafSort.{LeafSort}
 use Rattle.ir_format_checks.specs.declared.check.FormatSort.{FormatSort}
 use Rattle.ir_format_checks.specs.Tokens.{WrittenToken, Column, given, is_of, takes}
-use Rattle.ir_format_checks.specs.Decided.{all_may_be_empty, one_may_be_empty, Follow, anything, tokens_of, all_firsts, one_firsts, next_of, AreDecided}
+use Rattle.ir_format_checks.specs.Decided.{Follow, anything, tokens_of, all_firsts, one_firsts, next_of}
 use Rattle.ir_format_checks.specs.Accepted.{behind, IsAccepted}
-use Rattle.ir_format_checks.proofs.Booleans.{or_left, or_right, and_both, true_false}
 use Rattle.ir_format_readings.specs.Readings.{Item, token, region, column_of, Todo, rest, more, Event, took, member, ended, picks, says, names, symbol_steps, edge_steps, Derives, finished, no_step, a_word, an_operand, a_leaf_token, one_region, value, symbol, edge, several, no_member, a_member, no_more, one_more, picked, ReadsValue, ReadsBody, AreSame, HasOneReading, Always}
 use Rattle.ir_format_readings.specs.Language.{IsAcceptedLanguage, allows, MayComeBehind}
-use Rattle.ir_format_readings.proofs.Follows.{refuted, next_cases, solid_begins}
-use Rattle.ir_format_readings.proofs.NextTokens.{nexts, AreDecidedTodos, in_member, in_next, in_choice, in_value, in_several, in_symbol, in_edge, one_of_begins, one_of_is_empty, next_is}
+use Rattle.ir_format_readings.proofs.Follows.{refuted, solid_begins, one_choice}
+use Rattle.ir_format_readings.proofs.NextTokens.{nexts, AreDecidedTodos, in_member, in_next, in_choice, in_value, in_several, in_symbol, in_edge, next_is}
 
 -- ---- a reading by what is read first
 
@@ -112,40 +111,6 @@ first_same i j ts us vs r q e text = let whole : i ∷ (ts ++ r) ≡ j ∷ (us +
 
 left_same : (i j : Item) (ts us vs r q : List Item) → (i ∷ ts) ++ r ≡ vs ++ q → vs ≡ j ∷ us → ts ++ r ≡ us ++ q
 left_same i j ts us vs r q e text = let whole : i ∷ (ts ++ r) ≡ j ∷ (us ++ q) = e ∙ ap (λ z. z ++ q) text in cc
-
--- ---- choices
-
--- No alternative begins with what may come behind the choice, if one may be empty.
-abbrev IsApart : Choices → Follow Column → Column → Type 0
-IsApart cs next x = one_may_be_empty cs ≡ true → one_firsts cs x ≡ true → allows next x ≡ true → ⊥
-
--- a first alternative and one of the others
-first_or_other : (ss : Steps) (cs : Choices) (next : Follow Column) (x : Column) (j : ℕ) (b : Steps) → AreDecided (a_choice ss cs) next → IsApart (a_choice ss cs) next x
-    → alternative cs j ≡ Some b → allows (next_of ss next) x ≡ true → allows (next_of b next) x ≡ true → ⊥
-first_or_other ss cs next x j b d apart e h k = elim (next_cases ss next x h) [
-  | inl p ↦ elim (next_cases b next x k) [
-    | inl q ↦ d.1 x p (one_of_begins cs j b x e q)
-    | inr q ↦ apart (or_right (all_may_be_empty ss) _ (one_of_is_empty cs j b e q.0)) (or_left (all_firsts ss x) _ p) q.1
-  ]
-  | inr p ↦ elim (next_cases b next x k) [
-    | inl q ↦ apart (or_left (all_may_be_empty ss) _ p.0) (or_right (all_firsts ss x) _ (one_of_begins cs j b x e q)) p.1
-    | inr q ↦ true_false _ (and_both (all_may_be_empty ss) _ p.0 (one_of_is_empty cs j b e q.0)) d.2
-  ]
-]
-
--- two alternatives at which a text goes on are one
-one_choice : (cs : Choices) (next : Follow Column) (x : Column) (i j : ℕ) (a b : Steps) → AreDecided cs next → IsApart cs next x → alternative cs i ≡ Some a → alternative cs j ≡ Some b
-    → allows (next_of a next) x ≡ true → allows (next_of b next) x ≡ true → i ≡ j
-one_choice no_choice next x i j a b d apart e g h k = cc
-one_choice (a_choice ss cs) next x zero zero a b d apart e g h k = refl
-one_choice (a_choice ss cs) next x zero (suc j) a b d apart e g h k =
-    let same : a ≡ ss = cc in
-    absurd (first_or_other ss cs next x j b d apart g (subst (λ z. allows (next_of z next) x ≡ true) same h) k)
-one_choice (a_choice ss cs) next x (suc i) zero a b d apart e g h k =
-    let same : b ≡ ss = cc in
-    absurd (first_or_other ss cs next x i a d apart e (subst (λ z. allows (next_of z next) x ≡ true) same k) h)
-one_choice (a_choice ss cs) next x (suc i) (suc j) a b d apart e g h k =
-    ap suc (one_choice cs next x i j a b d.3 (λ p q r. apart (or_right (all_may_be_empty ss) _ p) (or_right (all_firsts ss x) _ q) r) e g h k)
 
 -- ---- the law
 

@@ -1,1 +1,2 @@
 pub mod OutlineLemmas
+pub mod AbsentLemmas

@@ -1,5 +1,5 @@
 -- Lemmas on signs and on parts that are read one after another.
-use Rattle.std.proofs.Common.{◌≡◌, ◌∙◌, sym, ap, subst, ℕ, Option, Some, None, Result, Ok, Err, List, [], ◌∷◌, ◌++◌, ◌<◌, refl, inr}
+use Rattle.std.proofs.Common.{◌≡◌, ◌∙◌, sym, ap, subst, ℕ, Option, Some, None, Result, Ok, Err, List, [], ◌∷◌, ◌++◌, ◌<◌, ◌≤◌, refl, inr}
 use Rattle.std.specs.Char.{is_whitespace}
 use Rattle.std.specs.List.{take_while}
 use Rattle.std.specs.Option.{MatchOption}
@@ -21,7 +21,7 @@ use Rattle.text_outlines.specs.Signs.{IsWithout, MissesSign, ReadsSign, Takes}
 use Rattle.std.specs.Result.{IfOk}
 use Rattle.text_outlines.specs.declared.sections.Mark.{Mark}
 use Rattle.text_outlines.specs.Sections.{Behind, IsWithoutMark, ReadsBehind, ReadsEntries, ReadsItem, ReadsItems, ReadsMark}
-use Rattle.text_outlines.specs.Members.{Among, AreRead, ReadsMember, ReadsMembers, ReadsNext}
+use Rattle.text_outlines.specs.Members.{Among, AreRead, ReadsMember, ReadsMembers, ReadsNext, RefusesMembers, RefusesNext}
 
 -- another token is behind the white space, and a fault is told there
 pub missed : {S : Type 0} (sign : ℕ) (old new : StateStream S) (p : Position) (fault : ParseFault) → new ≡ old → IsWithout sign old →
@@ -63,6 +63,12 @@ module _ {F S A : Type 0} (parser : Parser F S A) (f : F) (s : StateStream S) (o
       let P : StateStream S → Type 0 = λ x. AreRead parser (f, x) others at in
       inr (record { without = without; others = others; last = m; all = all; at = at; others_read = subst P e read; end = end; last_read = h; closes = k })
 
+  -- why the next one wasn't
+  pub some_refused : (start : StateStream S) → s ≡ start → IsWithout 93 start → (fault : ParseFault) → RefusesNext parser at fault → RefusesMembers parser (f, start) fault
+  some_refused start e without fault why =
+      let P : StateStream S → Type 0 = λ x. AreRead parser (f, x) others at in
+      inr (record { without = without; others = others; at = at; others_read = subst P e read; why = why })
+
 -- an answer that says less
 pub on_ok : {X E : Type 0} (P Q : X → Type 0) (r : Result X E) → ((x : X) → P x → Q x) → IfOk r P → IfOk r Q
 on_ok P Q (Ok x) f h = f x h
@@ -93,3 +99,9 @@ spaces_from {S} s t u e h = let P : StateStream S → Type 0 = λ x. SkipsSpaces
 
 pub without_from : {S : Type 0} (sign : ℕ) (s t : StateStream S) → t ≡ s → IsWithout sign t → IsWithout sign s
 without_from {S} sign s t e h = let P : StateStream S → Type 0 = λ x. IsWithout sign x in subst P e h
+
+pub misses_from : {S : Type 0} (sign : ℕ) (s t : StateStream S) (fault : ParseFault) → t ≡ s → MissesSign sign t fault → MissesSign sign s fault
+misses_from {S} sign s t fault e h = let P : StateStream S → Type 0 = λ x. MissesSign sign x fault in subst P e h
+
+pub no_less : (n m k : ℕ) → n ≡ m → n ≤ k → m ≤ k
+no_less n m k e h = let P : ℕ → Type 0 = λ x. x ≤ k in subst P e h

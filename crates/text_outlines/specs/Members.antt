@@ -1,5 +1,5 @@
 -- What stands under the keys of an entry.
-use Rattle.std.specs.Prelude.{◌≡◌, ◌<◌, ◌++◌, ◌⊎◌, true, false, List, [], ◌∷◌, Ok, Err}
+use Rattle.std.specs.Prelude.{◌≡◌, ◌<◌, ◌≤◌, ◌++◌, ◌⊎◌, true, false, List, [], ◌∷◌, Ok, Err}
 use Rattle.std.specs.List.{FoldsTo}
 use Rattle.ir_names.specs.Identifier.{text_of}
 use Rattle.ir_names.specs.declared.identifier.Identifier.{Identifier}
@@ -11,13 +11,13 @@ use Rattle.text_marks.specs.Marks.{begins_with_mark, ReadsNumberOfMark, RefusesM
 use Rattle.text_streams.specs.declared.stream.StateStream.{StateStream}
 use Rattle.text_streams.specs.declared.position.Position.{Position}
 use Rattle.text_streams.specs.declared.faults.ParseFault.{ParseFault}
-use Rattle.text_streams.specs.declared.faults.TextError.TheVariants.{AttributeRedefined}
+use Rattle.text_streams.specs.declared.faults.TextError.TheVariants.{AttributeRedefined, Syntax}
 use Rattle.text_streams.specs.Positions.{bytes_left, left}
 use Rattle.text_streams.specs.Spaces.{SkipsSpaces}
 use Rattle.text_locations.specs.Faults.{IsFaultAt, IsMemory}
 use Rattle.text_locations.specs.Locations.{Answers, At, Parser}
 use Rattle.text_outlines.specs.Names.{ReadsName, RefusesName}
-use Rattle.text_outlines.specs.Signs.{ReadsSign, IsWithout, Takes}
+use Rattle.text_outlines.specs.Signs.{ReadsSign, IsWithout, MissesSign, Takes}
 
 -- the keys that an entry has so far
 abbrev pub Keys : Type 0
@@ -98,3 +98,34 @@ pub record ReadsSome {F S A : Type 0} (parser : Parser F S A) (v : At F S) (memb
 -- that, or the `]` alone
 abbrev pub ReadsMembers : {F S A : Type 0} → Parser F S A → At F S → List (Identifier × Reference A) → At F S → Type 0
 ReadsMembers parser v members w = ((members ≡ []) × Takes 93 v w) ⊎ ReadsSome parser v members w
+
+-- ---- refusals
+
+-- why no member was read: its key is refused; no `=` is behind the key; or what stands under the key is refused
+abbrev pub RefusesMember : {F S A : Type 0} → Parser F S A → Among F S → ParseFault → Type 0
+RefusesMember {F} {S} parser p fault =
+    RefusesKey p.0 p.1.1 fault
+    ⊎ ((name : Identifier) × (keys : Keys) × (behind_key : StateStream S) × ReadsKey p.0 p.1.1 name keys behind_key
+    × (MissesSign 61 behind_key fault
+    ⊎ ((behind_sign : StateStream S) × ReadsSign 61 behind_key behind_sign × (start : StateStream S) × SkipsSpaces behind_sign start
+    × RefusesReference parser (p.1.0, start) fault)))
+
+-- why the next member isn't read with what has to be behind it: it is refused; no `]` and no `,` is behind it; with the `,` it takes nothing
+abbrev pub RefusesNext : {F S A : Type 0} → Parser F S A → Among F S → ParseFault → Type 0
+RefusesNext {F} {S} {A} parser p fault =
+    RefusesMember parser p fault
+    ⊎ ((member : Identifier × Reference A) × (q : Among F S) × ReadsMember parser p member q × IsWithout 93 q.1.1
+    × (MissesSign 44 q.1.1 fault
+    ⊎ ((behind : At F S) × Takes 44 q.1 behind × (fault.cause ≡ Syntax) × (bytes_left p.1.1.position ≤ bytes_left behind.1.position))))
+
+-- why no members were read, behind some that were
+pub record RefusesSome {F S A : Type 0} (parser : Parser F S A) (v : At F S) (fault : ParseFault) : Type 0 where
+  pub without : IsWithout 93 v.1
+  pub others : List (Identifier × Reference A)
+  pub at : Among F S
+  pub others_read : AreRead parser v others at
+  pub why : RefusesNext parser at fault
+
+-- that, or memory was refused
+abbrev pub RefusesMembers : {F S A : Type 0} → Parser F S A → At F S → ParseFault → Type 0
+RefusesMembers parser v fault = IsMemory fault ⊎ RefusesSome parser v fault

@@ -1,5 +1,5 @@
 -- What texts a section has.
-use Rattle.std.specs.Prelude.{ℕ, ◌≡◌, ◌<◌, ◌++◌, true, false, List, [], ◌∷◌, None}
+use Rattle.std.specs.Prelude.{ℕ, ◌≡◌, ◌<◌, ◌≤◌, ◌++◌, ◌⊎◌, true, false, List, [], ◌∷◌, None, is_some}
 use Rattle.std.specs.List.{FoldsTo}
 use Rattle.ir_locations.specs.declared.location.Location.{Location}
 use Rattle.ir_outlines.specs.Section.{Section, entry_among}
@@ -8,13 +8,15 @@ use Rattle.outline_tables.specs.Tables.{entry_of}
 use Rattle.text_marks.specs.Marks.{begins_with_mark, ReadsNumberOfMark, RefusesMark}
 use Rattle.text_streams.specs.declared.stream.StateStream.{StateStream}
 use Rattle.text_streams.specs.declared.faults.ParseFault.{ParseFault}
+use Rattle.text_streams.specs.declared.faults.TextError.TheVariants.{OutlineRedefined, Syntax}
 use Rattle.text_streams.specs.Positions.{bytes_left, left}
 use Rattle.text_streams.specs.Spaces.{SkipsSpaces}
-use Rattle.text_locations.specs.Locations.{At, Parser}
+use Rattle.text_locations.specs.Locations.{At, Parser, as_consumed}
+use Rattle.text_locations.specs.Faults.{IsFaultAt, IsMemory}
 use Rattle.text_outlines.specs.declared.sections.Mark.{Mark}
-use Rattle.text_outlines.specs.Entries.{ReadsEntry}
-use Rattle.text_outlines.specs.Names.{ReadsWord}
-use Rattle.text_outlines.specs.Signs.{ReadsSign, Takes}
+use Rattle.text_outlines.specs.Entries.{ReadsEntry, RefusesEntry}
+use Rattle.text_outlines.specs.Names.{ReadsWord, RefusesWord}
+use Rattle.text_outlines.specs.Signs.{ReadsSign, MissesSign, Takes}
 
 -- white space and the mark of an entry were read
 pub record ReadsIndex {S : Type 0} (old : StateStream S) (here : StateStream S) (index : ℕ) (new : StateStream S) : Type 0 where
@@ -82,3 +84,43 @@ ReadsBehindWord {F} {S} parser v section w = (start : At F S) × Takes 58 v star
 abbrev pub ReadsSection : {F S A : Type 0} → Parser F S A → At F S → Section A (Location A) → At F S → Type 0
 ReadsSection {F} {S} parser v section w =
     (behind : StateStream S) × ReadsWord v.1 behind × ReadsBehindWord parser (v.0, behind) section w
+
+-- ---- refusals
+
+-- why no entry was read behind its mark, which is at this place: its index is in the section so far; no `=` is behind the mark; the entry is
+-- refused; or memory was
+abbrev pub RefusesBehind : {F S A : Type 0} → Parser F S A → Behind F S A → Mark → ParseFault → Type 0
+RefusesBehind {F} {S} parser p mark fault =
+    ((is_some (entry_among p.0 mark.index) ≡ true) × IsFaultAt mark.place OutlineRedefined fault)
+    ⊎ (MissesSign 61 p.1.1 fault
+    ⊎ (((behind_sign : StateStream S) × ReadsSign 61 p.1.1 behind_sign × RefusesEntry parser (p.1.0, behind_sign) fault)
+    ⊎ IsMemory fault))
+
+-- why the next mark with its entry isn't read: the mark is refused; what is behind it is; or both take nothing
+abbrev pub RefusesItem : {F S A : Type 0} → Parser F S A → Behind F S A → ParseFault → Type 0
+RefusesItem {F} {S} {A} parser p fault =
+    RefusesMarkBehind p.1.1 fault
+    ⊎ ((mark : Mark) × (behind_mark : StateStream S) × ReadsMark p.1.1 mark behind_mark
+    × (RefusesBehind parser (p.0, (p.1.0, behind_mark)) mark fault
+    ⊎ ((entry : Entry A (Location A)) × (q : Behind F S A) × ReadsBehind parser (p.0, (p.1.0, behind_mark)) (mark.index, entry) q
+    × (fault.cause ≡ Syntax) × (bytes_left p.1.1.position ≤ bytes_left q.1.1.position))))
+
+-- why the entries weren't read, behind some that were
+abbrev pub RefusesEntries : {F S A : Type 0} → Parser F S A → At F S → ParseFault → Type 0
+RefusesEntries {F} {S} {A} parser v fault = (q : Behind F S A) × ReadsItems parser ([], v) q × RefusesItem parser q fault
+
+-- no `:` is there, or the entries behind it are refused
+abbrev pub RefusesBehindWord : {F S A : Type 0} → Parser F S A → At F S → ParseFault → Type 0
+RefusesBehindWord {F} {S} parser v fault =
+    MissesSign 58 v.1 fault ⊎ ((start : At F S) × Takes 58 v start × RefusesEntries parser start fault)
+
+-- the word is refused; or what is behind it, and the fault says that something was read before it
+abbrev pub RefusesSection : {F S A : Type 0} → Parser F S A → At F S → ParseFault → Type 0
+RefusesSection {F} {S} parser v fault =
+    RefusesWord v.1 fault
+    ⊎ ((behind : StateStream S) × ReadsWord v.1 behind × (inner : ParseFault) × (fault ≡ as_consumed inner)
+    × RefusesBehindWord parser (v.0, behind) inner)
+
+-- No section begins here, whatever the parser keeps.
+abbrev pub HasNoSection : {F S A : Type 0} → Parser F S A → StateStream S → Type 0
+HasNoSection {F} {S} {A} parser old = (f : F) (section : Section A (Location A)) (w : At F S) → ReadsSection parser (f, old) section w → ⊥

@@ -1,6 +1,6 @@
 //! Entries.
-ghost use Rattle.std.specs.Prelude.{IfOk};
-ghost use Rattle.text_outlines.specs.Entries.{ReadsPlace, ReadsEntry};
+ghost use Rattle.std.specs.Prelude.{MatchResult};
+ghost use Rattle.text_outlines.specs.Entries.{ReadsPlace, RefusesPlace, ReadsEntry, RefusesEntry};
 
 use crate::members::read_members;
 use crate::parsing::call;
@@ -19,7 +19,8 @@ fn read_place<S, A: Drop, F: FnMut(&mut StateStream<'_, S>) -> ParseResult<A>>(
     attribute: &mut F,
 ) -> ParseResult<Location<A>>
     requires { (f : F) (x : _) → F.pre f x }
-    ensures { IfOk result (λ location. ReadsPlace F.FnMut (attribute.old, stream.old) location (attribute.new, stream.new)) }
+    ensures { MatchResult result (λ location. ReadsPlace F.FnMut (attribute.old, stream.old) location (attribute.new, stream.new))
+        (RefusesPlace F.FnMut (attribute.old, stream.old)) }
 {
     expect(stream, '[')?;
     stream.position = stream.position.skip_spaces();
@@ -38,7 +39,8 @@ pub fn read_entry<S, A: Drop, F: FnMut(&mut StateStream<'_, S>) -> ParseResult<A
     key: TextKey,
 ) -> ParseResult<Entry<A, Location<A>>>
     requires { (f : F) (x : _) → F.pre f x }
-    ensures { IfOk result (λ entry. ReadsEntry F.FnMut (attribute.old, stream.old) entry (attribute.new, stream.new)) }
+    ensures { MatchResult result (λ entry. ReadsEntry F.FnMut (attribute.old, stream.old) entry (attribute.new, stream.new))
+        (RefusesEntry F.FnMut (attribute.old, stream.old)) }
 {
     if take_sign(stream, '@') {
         let location = read_place(alloc, stream, attribute)?;

@@ -1,7 +1,7 @@
 //! What stands under keys, in brackets.
-ghost use Rattle.std.specs.Prelude.{◌≡◌, ◌++◌, ◌∷◌, [], MatchResult, IfOk};
+ghost use Rattle.std.specs.Prelude.{◌≡◌, ◌++◌, ◌∷◌, [], MatchResult};
 ghost use Rattle.text_locations.specs.Faults.{IsMemory};
-ghost use Rattle.text_outlines.specs.Members.{Notes, RefusesNote, ReadsKey, RefusesKey, ReadsReference, RefusesReference, ReadsMember, ReadsMembers};
+ghost use Rattle.text_outlines.specs.Members.{Notes, RefusesNote, ReadsKey, RefusesKey, ReadsReference, RefusesReference, ReadsMember, RefusesMember, ReadsMembers, RefusesMembers};
 
 use crate::names::read_name;
 use crate::parsing::{call, needs_less};
@@ -71,7 +71,8 @@ fn read_member<S, A: Drop, F: FnMut(&mut StateStream<'_, S>) -> ParseResult<A>>(
     keys: &mut NameScope<()>,
 ) -> ParseResult<(Identifier, Reference<A>)>
     requires { (f : F) (x : _) → F.pre f x }
-    ensures { IfOk result (λ member. ReadsMember F.FnMut (keys.old, (attribute.old, stream.old)) member (keys.new, (attribute.new, stream.new))) }
+    ensures { MatchResult result (λ member. ReadsMember F.FnMut (keys.old, (attribute.old, stream.old)) member (keys.new, (attribute.new, stream.new)))
+        (RefusesMember F.FnMut (keys.old, (attribute.old, stream.old))) }
 {
     let name = read_key(alloc, stream, keys)?;
     expect(stream, '=')?;
@@ -98,7 +99,8 @@ pub fn read_members<S, A: Drop, F: FnMut(&mut StateStream<'_, S>) -> ParseResult
     key: TextKey,
 ) -> ParseResult<Vec<(Identifier, Reference<A>)>>
     requires { (f : F) (x : _) → F.pre f x }
-    ensures { IfOk result (λ members. ReadsMembers F.FnMut (attribute.old, stream.old) members.items (attribute.new, stream.new)) }
+    ensures { MatchResult result (λ members. ReadsMembers F.FnMut (attribute.old, stream.old) members.items (attribute.new, stream.new))
+        (RefusesMembers F.FnMut (attribute.old, stream.old)) }
 {
     let mut members = Vec::new(alloc);
     if take_sign(stream, ']') {

@@ -1,9 +1,10 @@
 //! The section.
-ghost use Rattle.std.specs.Prelude.{◌≡◌, IfOk, OnErr, MatchResult, MatchOption};
+ghost use Rattle.std.specs.Prelude.{◌≡◌, false, IfOk, IfErr, OnErr, MatchResult, MatchOption};
 ghost use Rattle.ir_locations.specs.declared.location.Location.{Location};
 ghost use Rattle.outline_tables.specs.declared.entries.Entry.{Entry};
 ghost use Rattle.outline_tables.specs.Tables.{section_of};
-ghost use Rattle.text_outlines.specs.Sections.{ReadsMark, RefusesMarkBehind, IsWithoutMark, ReadsBehind, ReadsEntries, ReadsBehindWord, ReadsSection};
+ghost use Rattle.text_streams.specs.declared.faults.TextError.TheVariants.{Syntax};
+ghost use Rattle.text_outlines.specs.Sections.{ReadsMark, RefusesMarkBehind, IsWithoutMark, ReadsBehind, RefusesBehind, ReadsEntries, RefusesEntries, ReadsBehindWord, RefusesBehindWord, ReadsSection, RefusesSection, HasNoSection};
 
 use crate::entries::read_entry;
 use crate::names::read_word;
@@ -50,8 +51,9 @@ fn read_behind<S, A: Drop, F: FnMut(&mut StateStream<'_, S>) -> ParseResult<A>>(
     mark: Mark<'_>,
 ) -> ParseResult<()>
     requires { (f : F) (x : _) → F.pre f x }
-    ensures { IfOk result (λ _. (entry : Entry A (Location A)) ×
-        ReadsBehind F.FnMut (section_of table.old, (attribute.old, stream.old)) (mark.entry.index, entry) (section_of table.new, (attribute.new, stream.new))) }
+    ensures { MatchResult result (λ _. (entry : Entry A (Location A)) ×
+        ReadsBehind F.FnMut (section_of table.old, (attribute.old, stream.old)) (mark.entry.index, entry) (section_of table.new, (attribute.new, stream.new)))
+        (RefusesBehind F.FnMut (section_of table.old, (attribute.old, stream.old)) mark.entry) }
 {
     if table.contains(mark.index) {
         return Err(fault_at(mark.place, TextError::OutlineRedefined));
@@ -72,7 +74,8 @@ fn read_entries<S, A: Drop, F: FnMut(&mut StateStream<'_, S>) -> ParseResult<A>>
     key: TextKey,
 ) -> ParseResult<OutlineTable<A, Location<A>>>
     requires { (f : F) (x : _) → F.pre f x }
-    ensures { IfOk result (λ table. ReadsEntries F.FnMut (attribute.old, stream.old) (section_of table) (attribute.new, stream.new)) }
+    ensures { MatchResult result (λ table. ReadsEntries F.FnMut (attribute.old, stream.old) (section_of table) (attribute.new, stream.new))
+        (RefusesEntries F.FnMut (attribute.old, stream.old)) }
 {
     let mut table = OutlineTable::new(alloc, key);
     'entries: loop {
@@ -93,7 +96,8 @@ fn read_behind_word<S, A: Drop, F: FnMut(&mut StateStream<'_, S>) -> ParseResult
     key: TextKey,
 ) -> ParseResult<OutlineTable<A, Location<A>>>
     requires { (f : F) (x : _) → F.pre f x }
-    ensures { IfOk result (λ table. ReadsBehindWord F.FnMut (attribute.old, stream.old) (section_of table) (attribute.new, stream.new)) }
+    ensures { MatchResult result (λ table. ReadsBehindWord F.FnMut (attribute.old, stream.old) (section_of table) (attribute.new, stream.new))
+        (RefusesBehindWord F.FnMut (attribute.old, stream.old)) }
 {
     expect(stream, ':')?;
     read_entries(alloc, stream, attribute, key)
@@ -107,7 +111,8 @@ fn read_section<S, A: Drop, F: FnMut(&mut StateStream<'_, S>) -> ParseResult<A>>
     key: TextKey,
 ) -> ParseResult<OutlineTable<A, Location<A>>>
     requires { (f : F) (x : _) → F.pre f x }
-    ensures { IfOk result (λ table. ReadsSection F.FnMut (attribute.old, stream.old) (section_of table) (attribute.new, stream.new)) }
+    ensures { MatchResult result (λ table. ReadsSection F.FnMut (attribute.old, stream.old) (section_of table) (attribute.new, stream.new))
+        (RefusesSection F.FnMut (attribute.old, stream.old)) }
 {
     read_word(alloc, stream)?;
     match read_behind_word(alloc, stream, attribute, key) {
@@ -136,6 +141,8 @@ pub fn outlined_attributes<S, A: Drop, F: FnMut(&mut StateStream<'_, S>) -> Pars
 ) -> ParseResult<OutlineTable<A, Location<A>>>
     requires { (f : F) (x : _) → F.pre f x }
     ensures read { IfOk result (λ table. (left : F) × ReadsSection F.FnMut (attribute, stream.old) (section_of table) (left, stream.new)) }
+    ensures refused { IfErr result (RefusesSection F.FnMut (attribute, stream.old)) }
+    ensures absent { IfErr result (λ fault. fault.cause ≡ Syntax → fault.consumed ≡ false → HasNoSection F.FnMut stream.old) }
     ensures stays { OnErr result (stream.new.position ≡ stream.old.position) }
 {
     let start = stream.position;

@@ -1,4 +1,8 @@
 pub mod Places
 pub mod Pieces
-pub mod Taking
 pub mod OneToken
+pub mod Columns
+pub mod Inside
+pub mod Readings
+pub mod Formats
+pub mod Taking

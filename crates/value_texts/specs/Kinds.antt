@@ -1,5 +1,5 @@
 -- The kind that a token names.
-use Rattle.std.specs.Prelude.{◌≡◌, ℕ, List, Some, true, slice_get}
+use Rattle.std.specs.Prelude.{◌≡◌, ◌≢◌, ℕ, List, Some, true, slice_get}
 use Rattle.ir_print.specs.Formats.{Kind, Steps}
 use Rattle.ir_format_checks.specs.Tokens.{dotted}
 use Rattle.stream_tokens.specs.declared.lexemes.Lexeme.{Lexeme}
@@ -12,3 +12,7 @@ pub record IsKindNamed (kinds : List Kind) (token : Lexeme) (number : ℕ) (form
   pub dotted_name : is_lexeme_of token dotted ≡ true
   pub named : token.text.items ≡ kind.id
   pub formatted : format ≡ kind.format
+
+-- it is the id of no kind
+abbrev pub IsNoKind : List Kind → Lexeme → Type 0
+IsNoKind kinds token = (i : ℕ) (k : Kind) → slice_get kinds i ≡ Some k → is_lexeme_of token dotted ≡ true → token.text.items ≢ k.id

@@ -2,4 +2,8 @@ pub mod Shows
 pub mod Tokens
 pub mod Kinds
 pub mod Texts
+pub mod Following
+pub mod Readable
+pub mod Deep
+pub mod Only
 pub mod Progress

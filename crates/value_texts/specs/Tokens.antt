@@ -17,3 +17,7 @@ pub record TakesToken (c : TokenClass) (cs text rest : List ℕ) : Type 0 where
 pub record TakesLexeme (c : TokenClass) (from : Position) (token : Lexeme) : Type 0 where
   pub lexeme : IsLexeme from token
   pub class : is_lexeme_of token c ≡ true
+
+-- no token of the class comes next
+abbrev pub IsNoNext : TokenClass → List ℕ → Type 0
+IsNoNext c cs = (text rest : List ℕ) → TakesToken c cs text rest → ⊥

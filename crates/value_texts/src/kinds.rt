@@ -1,7 +1,7 @@
 //! Kinds by their ids.
-ghost use Rattle.std.specs.Prelude.{◌≡◌, Some, slice_get, IfSome};
-ghost use Rattle.ir_print.specs.Formats.{Kind, kinds_of, steps_of};
-ghost use Rattle.value_texts.specs.Kinds.{IsKindNamed};
+ghost use Rattle.std.specs.Prelude.{◌≡◌, true, Some, None, slice_get, IfSome};
+ghost use Rattle.ir_print.specs.Formats.{Kind, kinds_of, steps_of, is_small};
+ghost use Rattle.value_texts.specs.Kinds.{IsKindNamed, IsNoKind};
 
 use crate::maker::ValueMaker;
 use ir_print::{Directive, ValueSort};
@@ -16,7 +16,8 @@ pub(crate) fn kind_named<M: ValueMaker>(
     sort: ValueSort,
     token: &Lexeme<'_>,
 ) -> Option<(usize, &'static [Directive])>
-    ensures { IfSome result (λ found. IsKindNamed (kinds_of M.formats sort) token.now found.0 (steps_of found.1.now)) }
+    ensures found { IfSome result (λ found. IsKindNamed (kinds_of M.formats sort) token.now found.0 (steps_of found.1.now)) }
+    ensures absent { result ≡ None → is_small M.formats ≡ true → IsNoKind (kinds_of M.formats sort) token.now }
 {
     if !is_dotted(token) {
         return None;

@@ -3,6 +3,7 @@
 //! What makes values of their parts is a [`ValueMaker`]. [`value_parse`] reads one value from a stream.
 #![tactic(auto)]
 
+mod deciding;
 mod kinds;
 mod maker;
 mod progress;

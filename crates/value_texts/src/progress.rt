@@ -2,7 +2,9 @@
 ghost use Rattle.std.specs.Prelude.{◌≡◌, ◌++◌, ◌∷◌, [], OnOk, IfOk, MatchOption};
 ghost use Rattle.ir_format_checks.specs.Tokens.{given};
 ghost use Rattle.ir_format_checks.specs.Decided.{leaf_class};
-ghost use Rattle.value_texts.specs.Tokens.{TakesLexeme};
+ghost use Rattle.text_streams.specs.Positions.{left};
+ghost use Rattle.value_texts.specs.Tokens.{TakesLexeme, IsNoNext};
+ghost use Rattle.value_texts.specs.Only.{IsSyntax};
 ghost use Rattle.value_texts.specs.Progress.{TakesWord};
 
 use ir_print::LeafSort;
@@ -40,7 +42,9 @@ impl<T: Drop> From<AllocFailed<T>> for ReadFault<'_> {
 }
 
 /// No text goes on with the token that comes next at a place.
-pub(crate) fn syntax<'a>(at: Position<'a>) -> ReadFault<'a> {
+pub(crate) fn syntax<'a>(at: Position<'a>) -> ReadFault<'a>
+    ensures { IsSyntax result }
+{
     ReadFault::Text(TextError::Syntax, at.skip_spaces())
 }
 
@@ -118,10 +122,13 @@ pub(crate) fn leaf_at<'a>(
     at: Position<'a>,
     sort: LeafSort,
 ) -> Result<Option<Lexeme<'a>>, AllocError>
-    ensures { IfOk result (λ found. MatchOption found (Unit {0}) (TakesLexeme (leaf_class sort) at.entry)) }
+    ensures { IfOk result (λ found. MatchOption found (IsNoNext (leaf_class sort) (left at.entry)) (TakesLexeme (leaf_class sort) at.entry)) }
 {
-    match next_token(alloc, at)? {
-        Some(token) if is_leaf(&token, sort) => Ok(Some(token)),
-        _ => Ok(None),
+    let Some(token) = next_token(alloc, at)? else {
+        return Ok(None);
+    };
+    if !is_leaf(&token, sort) {
+        return Ok(None);
     }
+    Ok(Some(token))
 }

@@ -1,49 +1,25 @@
 //! Reading by formats.
-ghost use Rattle.std.specs.Prelude.{◌≡◌, ℕ, List, OnOk, IfOk, IfSome};
+ghost use Rattle.std.specs.Prelude.{◌≡◌, ℕ, suc, List, OnOk, IfErr};
 ghost use Rattle.ir_print.specs.Formats.{step_of, steps_of, choices_of, a_leaf, a_value, list_of, choice_of};
 ghost use Rattle.value_texts.specs.Progress.{TakesStep, TakesOne, TakesSteps, TakesMember};
+ghost use Rattle.value_texts.specs.Only.{IsRefusal, RefusesStep, RefusesSteps};
 
+use crate::deciding::{begins_at, chosen_at};
 use crate::kinds::kind_named;
 use crate::maker::{Refusal, ValueMaker};
 use crate::progress::{Progress, ReadFault, leaf_at, syntax};
 use ir_print::{Directive, LeafSort, ValueSort};
-use std::alloc::{AllocError, Global};
+use std::alloc::Global;
 use stream_tokens::next_token;
 use text_streams::{Position, TextError};
-use token_classes::{all_begin, all_may_be_empty};
 
 /// Lists and choices stand in one another at most so deep in a format.
 const LISTS: u32 = 64;
 
-/// Whether a text of the format may begin with the next token.
-fn begins_at(alloc: Global, at: Position<'_>, format: &[Directive]) -> Result<bool, AllocError> {
-    match next_token(alloc, at)? {
-        Some(token) => Ok(all_begin(&token, format)),
-        None => Ok(false),
-    }
-}
-
-/// The number of the format, of several, that the next token decides for: one that begins with it, or else one that may
-/// be empty.
-fn chosen_at(
-    alloc: Global,
-    at: Position<'_>,
-    alternatives: &[&'static [Directive]],
-) -> Result<Option<usize>, AllocError> {
-    let mut empty = None;
-    for (number, format) in alternatives.iter().enumerate() {
-        if begins_at(alloc, at, *format)? {
-            return Ok(Some(number));
-        }
-        if all_may_be_empty(*format) {
-            empty = Some(number);
-        }
-    }
-    Ok(empty)
-}
-
 /// What is answered where no value is made of what was read.
-fn refused<'a, P: Drop>(refusal: Refusal, read: &Progress<'a, P>) -> ReadFault<'a> {
+fn refused<'a, P: Drop>(refusal: Refusal, read: &Progress<'a, P>) -> ReadFault<'a>
+    ensures { IsRefusal refusal result }
+{
     match refusal {
         Refusal::Memory => ReadFault::Memory,
         Refusal::Refused(number) => match read.places.get(number) {
@@ -59,7 +35,8 @@ fn read_leaf<'a, M: ValueMaker>(
     sort: LeafSort,
     progress: &mut Progress<'a, M::Part>,
 ) -> Result<(), ReadFault<'a>>
-    ensures { (s : M.Store) (left : ℕ) → OnOk result (TakesOne M.formats M.values M.leaf_in (M.shows s) left (a_leaf sort) progress.old progress.new) }
+    ensures took { (s : M.Store) (left : ℕ) → OnOk result (TakesOne M.formats M.values M.leaf_in (M.shows s) left (a_leaf sort) progress.old progress.new) }
+    ensures refuses { (deepest lists : ℕ) → IfErr result (λ fault. RefusesStep M.formats M.values M.leaf_in (a_leaf sort) progress.old.at deepest lists fault) }
 {
     let Some(token) = leaf_at(alloc, progress.at, sort)? else {
         return Err(syntax(progress.at));
@@ -82,6 +59,7 @@ pub(crate) fn read_value<'a, M: ValueMaker>(
 ) -> Result<(), ReadFault<'a>>
     ensures took { OnOk result (TakesOne M.formats M.values M.leaf_in (M.shows store.new) left (a_value sort) progress.old progress.new) }
     ensures keeps { M.keeps store.old store.new }
+    ensures refuses { (lists : ℕ) → IfErr result (λ fault. RefusesStep M.formats M.values M.leaf_in (a_value sort) progress.old.at left lists fault) }
 {
     let Some(token) = next_token(alloc, progress.at)? else {
         return Err(syntax(progress.at));
@@ -116,6 +94,7 @@ fn read_steps<'a, M: ValueMaker>(
 ) -> Result<(), ReadFault<'a>>
     ensures took { OnOk result (TakesSteps M.formats M.values M.leaf_in (M.shows store.new) left (steps_of format.now) progress.old progress.new) }
     ensures keeps { M.keeps store.old store.new }
+    ensures refuses { IfErr result (λ fault. RefusesSteps M.formats M.values M.leaf_in (steps_of format.now) progress.old.at left lists fault) }
 {
     for directive in format {
         read_step::<M>(alloc, store, *directive, progress, left, lists)?;
@@ -135,6 +114,7 @@ fn read_step<'a, M: ValueMaker>(
 ) -> Result<(), ReadFault<'a>>
     ensures took { OnOk result (TakesStep M.formats M.values M.leaf_in (M.shows store.new) left (step_of directive) progress.old progress.new) }
     ensures keeps { M.keeps store.old store.new }
+    ensures refuses { IfErr result (λ fault. RefusesStep M.formats M.values M.leaf_in (step_of directive) progress.old.at left lists fault) }
 {
     match directive {
         Directive::Literal(text) => {
@@ -195,6 +175,7 @@ fn read_list<'a, M: ValueMaker>(
 ) -> Result<(), ReadFault<'a>>
     ensures took { (printed : List ℕ) → OnOk result (TakesOne M.formats M.values M.leaf_in (M.shows store.new) left (list_of (steps_of member.now) printed separator.now) progress.old progress.new) }
     ensures keeps { M.keeps store.old store.new }
+    ensures refuses { (printed : List ℕ) → IfErr result (λ fault. RefusesStep M.formats M.values M.leaf_in (list_of (steps_of member.now) printed separator.now) progress.old.at left (suc lists) fault) }
 {
     let mut members = Vec::new(alloc);
     if begins_at(alloc, progress.at, member)? {
@@ -220,6 +201,7 @@ fn read_member<'a, M: ValueMaker>(
 ) -> Result<(), ReadFault<'a>>
     ensures took { OnOk result (TakesMember M.formats M.values M.leaf_in (M.shows store.new) left (steps_of member.now) members.old.items members.new.items progress.old progress.new) }
     ensures keeps { M.keeps store.old store.new }
+    ensures refuses { IfErr result (λ fault. RefusesSteps M.formats M.values M.leaf_in (steps_of member.now) progress.old.at left lists fault) }
 {
     let mut inner = Progress::new(alloc, progress.at, progress.last);
     read_steps::<M>(alloc, store, member, &mut inner, left, lists)?;
@@ -241,6 +223,7 @@ fn read_choice<'a, M: ValueMaker>(
 ) -> Result<(), ReadFault<'a>>
     ensures took { OnOk result (TakesOne M.formats M.values M.leaf_in (M.shows store.new) left (choice_of (choices_of alternatives.now)) progress.old progress.new) }
     ensures keeps { M.keeps store.old store.new }
+    ensures refuses { IfErr result (λ fault. RefusesStep M.formats M.values M.leaf_in (choice_of (choices_of alternatives.now)) progress.old.at left (suc lists) fault) }
 {
     let Some(number) = chosen_at(alloc, progress.at, alternatives)? else {
         return Err(syntax(progress.at));

@@ -1,5 +1,7 @@
 //! Values of a stream.
-ghost use Rattle.std.specs.Prelude.{◌≡◌, OnErr, IfOk};
+ghost use Rattle.std.specs.Prelude.{◌≡◌, OnErr, IfOk, IfErr};
+ghost use Rattle.text_streams.specs.Positions.{left};
+ghost use Rattle.value_texts.specs.Only.{RefusesValue};
 ghost use Rattle.value_texts.specs.Progress.{ReadsValue};
 
 use crate::maker::ValueMaker;
@@ -13,7 +15,9 @@ use text_streams::{ParseFault, ParseResult, Position, StateStream, TextError};
 const DEEPEST: u32 = 64;
 
 /// The fault at a place, where reading began at another one.
-fn fault_at(cause: TextError, start: Position<'_>, at: Position<'_>) -> ParseFault {
+fn fault_at(cause: TextError, start: Position<'_>, at: Position<'_>) -> ParseFault
+    ensures { result.cause ≡ cause }
+{
     ParseFault {
         line: at.line(),
         column: at.column(),
@@ -23,6 +27,10 @@ fn fault_at(cause: TextError, start: Position<'_>, at: Position<'_>) -> ParseFau
 }
 
 /// Reads a type or an attribute from where a stream is, and leaves the stream right behind it.
+///
+/// # Errors
+/// `Syntax` at the first token with which the formats don't go on, or at the part that the language refuses. `TooDeep` at the first token
+/// of the 65th type or attribute in one another. `Memory`. The stream stays where it was.
 pub fn value_parse<M: ValueMaker, S>(
     alloc: Global,
     store: &mut M::Store,
@@ -30,6 +38,7 @@ pub fn value_parse<M: ValueMaker, S>(
     stream: &mut StateStream<'_, S>,
 ) -> ParseResult<M::Part>
     ensures read { IfOk result (λ part. ReadsValue M.formats M.values M.leaf_in (M.shows store.new) sort stream.old stream.new part) }
+    ensures refused { IfErr result (λ fault. RefusesValue M.formats M.values M.leaf_in sort (left stream.old.position) fault.cause) }
     ensures keeps { M.keeps store.old store.new }
     ensures stays { OnErr result (stream.new ≡ stream.old) }
 {

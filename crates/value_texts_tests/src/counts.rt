@@ -1,5 +1,6 @@
 //! A language of which only the size of what is read is kept.
 ghost use Rattle.ir_print.specs.Pieces.{Pieces};
+ghost use Rattle.value_texts.specs.Readable.{IsReadable};
 ghost use Rattle.value_texts.specs.Shows.{ShowsAll, ShowsMembers};
 ghost use Rattle.value_texts_tests.specs.Any.{shows_any};
 ghost use Rattle.value_texts_tests.specs.Forms as forms;
@@ -119,3 +120,8 @@ impl ValueMaker for Sizes {
 
     ghost later = { λ _ _ _ _ _ _. tt };
 }
+
+/// Lemma: the next token decides each step of reading the language, so that its refusals are exact.
+pub fn the_language_is_readable()
+    ensures { IsReadable forms.formats }
+{}
