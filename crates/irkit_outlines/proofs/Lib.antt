@@ -1,1 +1,4 @@
 pub mod Answered
+pub mod Fronts
+pub mod Passed
+pub mod Refused

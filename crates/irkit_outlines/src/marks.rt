@@ -1,4 +1,7 @@
 //! The marks of items: where they stand, and what they lead to.
+use crate::items::Item;
+use crate::rules::is_known;
+use crate::sections::Entries;
 use ir_characters::Text;
 use ir_names::Identifier;
 use ir_tokens::{ScopeCause, place_after};
@@ -11,10 +14,6 @@ use outlined_writing::Beside;
 use std::alloc::{AllocError, Global};
 use text_dialect::TextDialect;
 use text_marking::Mark;
-
-use crate::items::Item;
-use crate::rules::is_known;
-use crate::sections::Entries;
 
 /// How many of the marks stand where they may, which belong to these items: up to the first that no item has or whose number isn't
 /// below 2^64, or that is the second one of an item.
@@ -50,7 +49,6 @@ impl MarkFault {
         self.place < other.place || (self.place == other.place && self.order < other.order)
     }
 }
-
 
 /// What marks lead to, as far as they were looked up.
 #[derive(Drop)]

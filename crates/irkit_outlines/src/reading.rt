@@ -1,10 +1,17 @@
 //! From a text with marks and a section to a module with what stands beside its items.
-ghost use Rattle.std.specs.Prelude.{◌≡◌, IfOk, encode_utf8_all};
+ghost use Rattle.std.specs.Prelude.{◌≡◌, [], None, true, IfErr, IfOk, encode_utf8_all};
 ghost use Rattle.ir_characters.specs.Texts.{codes_of, owned_codes};
 ghost use Rattle.irkit_running.specs.Known.{CanBeWritten, HasGrammar};
 ghost use Rattle.irkit_running.specs.Outcomes.{Loads};
-ghost use Rattle.irkit_outlines.specs.Outlined.{LoadsFront};
+ghost use Rattle.irkit_outlines.specs.Outlined.{IsBareText, IsRefused, LoadsFront};
 
+use crate::ends::ends_of;
+use crate::items::{Items, items_of};
+use crate::marks::{Marks, Resolved, count_placed};
+use crate::outlines::{OutlinedModule, Outlines};
+use crate::rules::{first_rule, unknown_attribute};
+use crate::sections::{Entries, entries_of};
+use crate::source::{behind, utf8_of};
 use indexmap::IndexMap;
 use ir_characters::{Characters, Text};
 use ir_context::Context;
@@ -20,18 +27,10 @@ use irkit_streams::Watched;
 use kit::{Kit, let_go};
 use kit_checks::Rule;
 use mark_places::marked_items;
+use outlined_texts::{OutlinedText, split_outlined};
 use std::alloc::{AllocError, Global};
 use text_dialect::grammar_of;
-use outlined_texts::{OutlinedText, split_outlined};
 use text_marking::{Mark, take_marks};
-
-use crate::ends::ends_of;
-use crate::items::{Items, items_of};
-use crate::marks::{Marks, Resolved, count_placed};
-use crate::outlines::{OutlinedModule, Outlines};
-use crate::rules::{first_rule, unknown_attribute};
-use crate::sections::{Entries, entries_of};
-use crate::source::{behind, utf8_of};
 
 /// Whether a text may have marks or a section: it has a `!`, or the word that a section begins with.
 pub fn has_outlines(text: &str) -> bool {
@@ -58,7 +57,12 @@ fn read_front(alloc: Global, text: Text) -> Result<Front, AllocError> {
 }
 
 /// The name that a token is. The next token begins at `end`, if there is one.
-fn name_at(alloc: Global, text: Text, start: usize, end: usize) -> Result<Option<Identifier>, AllocError> {
+fn name_at(
+    alloc: Global,
+    text: Text,
+    start: usize,
+    end: usize,
+) -> Result<Option<Identifier>, AllocError> {
     let mut name = String::new(alloc);
     for place in start..end.min(text.len()) {
         let c = text.at(place);
@@ -133,7 +137,8 @@ fn syntax_at(text: Text, place: usize) -> Refusal {
 /// Whether a refusal is the syntax fault that this one is.
 fn is_same_syntax(refusal: &Refusal, other: &Refusal) -> bool {
     match (refusal, other) {
-        (Refusal::Syntax(line, column), Refusal::Syntax(there, at)) => line == there && column == at,
+        (Refusal::Syntax(line, column), Refusal::Syntax(there, at)) => line == there
+            && column == at,
         _ => false,
     }
 }
@@ -270,7 +275,11 @@ fn look_up_marks(
 }
 
 /// Binds what stands beside the items of a text to those of its module, which come in the same order.
-fn bind(outlines: &mut Outlines, nodes: &[IRNode], of_items: &[Option<usize>]) -> Result<(), AllocError> {
+fn bind(
+    outlines: &mut Outlines,
+    nodes: &[IRNode],
+    of_items: &[Option<usize>],
+) -> Result<(), AllocError> {
     for (node, beside) in nodes.iter().zip(of_items) {
         if let Some(index) = beside {
             match node {
@@ -303,7 +312,11 @@ fn bound(
         blocks: IndexMap::new(alloc),
         names: resolved.names,
     };
-    bind(&mut outlines, nodes.as_slice(), resolved.of_items.as_slice())?;
+    bind(
+        &mut outlines,
+        nodes.as_slice(),
+        resolved.of_items.as_slice(),
+    )?;
     Ok(OutlinedModule { root, outlines })
 }
 
@@ -399,6 +412,7 @@ fn load_bytes(
     bytes: &[u8],
 ) -> Result<Ptr<Operation>, Refusal>
     ensures loads { IfOk result (Loads bytes.now ctx.old ctx.new) }
+    ensures refused { IfErr result (IsRefused bytes.now ctx.old) }
     ensures writable { IfOk result (CanBeWritten ctx.new) }
     ensures grammar { IfOk result (λ _. HasGrammar) }
 {
@@ -406,12 +420,9 @@ fn load_bytes(
 }
 
 /// Reads a text without marks and section.
-fn load_text(
-    alloc: Global,
-    ctx: &mut Context<Kit>,
-    text: Text,
-) -> Result<Ptr<Operation>, Refusal>
+fn load_text(alloc: Global, ctx: &mut Context<Kit>, text: Text) -> Result<Ptr<Operation>, Refusal>
     ensures loads { IfOk result (Loads (encode_utf8_all (codes_of text.entry)) ctx.old ctx.new) }
+    ensures refused { IfErr result (IsRefused (encode_utf8_all (codes_of text.entry)) ctx.old) }
     ensures writable { IfOk result (CanBeWritten ctx.new) }
     ensures grammar { IfOk result (λ _. HasGrammar) }
 {
@@ -419,20 +430,69 @@ fn load_text(
     load_bytes(alloc, ctx, bytes.as_bytes())
 }
 
-/// Reads a module with what stands beside its items into a context.
-pub fn load(
+/// Whether a text has no marks and no section.
+fn is_bare(split: &OutlinedText) -> bool
+    ensures { (split.now.section ≡ None) × (split.now.marks.items ≡ []) → result ≡ true }
+{
+    split.section.is_none() && split.marks.is_empty()
+}
+
+/// What stands beside the items of a text without marks and section that was read, as this operation: the names of its values.
+fn finish_bare(
+    alloc: Global,
+    ctx: &Context<Kit>,
+    parts: Parts<'_>,
+    root: Ptr<Operation>,
+) -> Result<OutlinedModule, AllocError>
+    ensures { IfOk result (λ m. m.root ≡ root) }
+{
+    let bare = parts.split.front.as_text();
+    let front = read_front(alloc, bare)?;
+    let found = items_of(alloc, &front.reading.events)?;
+    let names = names_of(alloc, bare, &front.starts, found.definitions.as_slice())?;
+    bound(
+        alloc,
+        ctx,
+        root,
+        Resolved::new(alloc, found.items.len(), names)?,
+    )
+}
+
+/// Reads a text without marks and section.
+fn load_bare(
     alloc: Global,
     ctx: &mut Context<Kit>,
-    text: &str,
+    parts: Parts<'_>,
 ) -> Result<OutlinedModule, Refusal>
+    ensures loads { IfOk result (λ m. Loads (encode_utf8_all (owned_codes parts.entry.split.now.front)) ctx.old ctx.new m.root) }
+    ensures writable { IfOk result (λ m. CanBeWritten ctx.new m.root) }
+    ensures grammar { IfOk result (λ _. HasGrammar) }
+    ensures refused { IfErr result (IsRefused (encode_utf8_all (owned_codes parts.entry.split.now.front)) ctx.old) }
+{
+    let root = load_text(alloc, ctx, parts.split.front.as_text())?;
+    Ok(finish_bare(alloc, ctx, parts, root)?)
+}
+
+/// Reads a module with what stands beside its items into a context.
+///
+/// # Errors
+/// The first fault of the text: of its operations, its marks or its section, by line and column, or a broken rule by its place; that memory
+/// is refused; or that the context has too few numbers left for the text's values. The context may hold operations of the text then.
+pub fn load(alloc: Global, ctx: &mut Context<Kit>, text: &str) -> Result<OutlinedModule, Refusal>
     ensures loads { IfOk result (λ m. LoadsFront text.now ctx.old ctx.new m.root) }
     ensures writable { IfOk result (λ m. CanBeWritten ctx.new m.root) }
     ensures grammar { IfOk result (λ _. HasGrammar) }
+    ensures whole { IsBareText text.now → IfOk result (λ m. Loads text.now ctx.old ctx.new m.root) }
+    ensures refused { IsBareText text.now → IfErr result (IsRefused text.now ctx.old) }
 {
     let chars = Characters::from_str(alloc, text)?;
     let all = chars.as_text();
     let split = split_outlined(alloc, all)?;
-    load_split(alloc, ctx, Parts::new(text, all, &split))
+    let parts = Parts::new(text, all, &split);
+    if is_bare(&split) {
+        return load_bare(alloc, ctx, parts);
+    }
+    load_split(alloc, ctx, parts)
 }
 
 /// The same of a text that is taken apart.

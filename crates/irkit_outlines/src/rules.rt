@@ -1,4 +1,5 @@
 //! The rule on attributes, of what stands beside the items of a text.
+use crate::items::place_of;
 use ir_grammar::grammar::Event;
 use ir_names::Place;
 use irkit_refusals::Refusal;
@@ -6,8 +7,6 @@ use kit_checks::Rule;
 use kit_ops::keys;
 use outline_values::OutlinedValue;
 use std::alloc::{AllocError, Global};
-
-use crate::items::place_of;
 
 /// Whether an item may have an attribute under a key that isn't its own.
 pub(crate) fn is_known(key: &str, value: &OutlinedValue) -> bool {

@@ -15,7 +15,10 @@ pub(crate) type Entries = OutlineTable<OutlinedValue, Location<OutlinedValue>>;
 /// The line and the column of a place in a part of a text that begins at this line and column.
 fn place_in(start: (usize, usize), line: u64, column: u64) -> (usize, usize) {
     if line <= 1 {
-        (start.0, start.1.saturating_add(column as usize).saturating_sub(1))
+        (
+            start.0,
+            start.1.saturating_add(column as usize).saturating_sub(1),
+        )
     } else {
         (
             start.0.saturating_add(line as usize).saturating_sub(1),

@@ -1,12 +1,16 @@
 //! The program on its words, whatever marks and sections its input has.
-ghost use Rattle.std.specs.Prelude.{◌≡◌, IfOk, false};
+ghost use Rattle.std.specs.Prelude.{◌≡◌, Err, IfErr, IfOk, false, map};
 ghost use Rattle.std.specs.String.{string_bytes};
 ghost use Rattle.irkit_streams.specs.Streams.{has_failed};
 ghost use Rattle.kit_ruled_passes.specs.Held.{HoldsModule};
 ghost use Rattle.irkit_running.specs.Known.{CanBeWritten, HasGrammar};
 ghost use Rattle.irkit_running.specs.Lists.{PassesGive};
-ghost use Rattle.irkit_outlines.specs.Outlined.{GivesPlain};
+ghost use Rattle.ir_base.specs.declared.growth.GrowError.TheVariants.{CounterFull};
+ghost use Rattle.kit_optimiser.specs.Passed.{FillsUp, pass_of};
+ghost use Rattle.irkit_outlines.specs.Outlined.{GivesPlain, IsBareText, IsRefusedAfter};
 
+use crate::reading::{front_of, has_outlines, load};
+use crate::writing::with_outlines;
 use ir_base::GrowError;
 use ir_context::Context;
 use ir_program::{Operation, Ptr};
@@ -20,9 +24,6 @@ use kit_ops::KitPass;
 use std::alloc::Global;
 use std::io::{Read, Write};
 use std::mem::forget;
-
-use crate::reading::{front_of, has_outlines, load};
-use crate::writing::with_outlines;
 
 /// At most so many calls read an input, so one that gives fewer bytes is read to its end.
 const TURNS: u64 = 1 << 40;
@@ -52,7 +53,8 @@ fn plain_after(
     requires holds { HoldsModule ctx.old root }
     requires writable { CanBeWritten ctx.old root }
     requires grammar { HasGrammar }
-    ensures { IfOk result (λ plain. PassesGive passes.now ctx.old root (string_bytes plain)) }
+    ensures gives { IfOk result (λ plain. PassesGive passes.now ctx.old root (string_bytes plain)) }
+    ensures full { result ≡ Err CounterFull → FillsUp (map pass_of passes.now) ctx.old root }
 {
     optimise(alloc, ctx, root, passes)?;
     Ok(text_of(alloc, ctx, root)?)
@@ -68,7 +70,8 @@ pub fn optimised(
     text: &str,
     passes: &[KitPass],
 ) -> Result<OptimisedText, Refusal>
-    ensures { IfOk result (λ written. GivesPlain passes.now text.now (string_bytes written.plain)) }
+    ensures gives { IfOk result (λ written. GivesPlain passes.now text.now (string_bytes written.plain)) }
+    ensures refused { IsBareText text.now → ctx.old.program.counter ≡ 0 → IfErr result (IsRefusedAfter passes.now text.now) }
 {
     let module = load(alloc, ctx, text)?;
     let plain = plain_after(alloc, ctx, module.root, passes)?;

@@ -1,13 +1,12 @@
 //! The text of a module with what stands beside its items.
+use crate::ends::ends_of;
+use crate::outlines::{OutlinedModule, Outlines};
 use ir_context::Context;
 use ir_hashing::TextKey;
 use ir_program::IRNode;
 use kit::Kit;
 use outlined_writing::outlined_text;
 use std::alloc::{AllocError, Global};
-
-use crate::ends::ends_of;
-use crate::outlines::{OutlinedModule, Outlines};
 
 /// The number of what stands beside a node, if anything does.
 fn beside_of(outlines: &Outlines, node: IRNode) -> Option<usize> {

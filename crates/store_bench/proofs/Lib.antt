@@ -1,3 +1,0 @@
-pub mod Flats
-pub mod OperandRows
-pub mod Orders

@@ -1,5 +1,0 @@
-//! Tests of tokens by the public call.
-#![tactic(auto)]
-
-#[cfg(test)]
-mod tokens;
