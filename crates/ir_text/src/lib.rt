@@ -34,6 +34,7 @@ pub use text_lists::{
 };
 pub use text_locations::location;
 pub use text_marks::{MarkOr, OUTLINED_ATTR_MARKER, outlined_marker_or};
+pub use text_operations::{OperationParserConfig, operation_parse};
 pub use text_outlines::outlined_attributes;
 pub use text_parsables::{Parsable, parse_whole};
 pub use text_printing::{print_module, print_root};

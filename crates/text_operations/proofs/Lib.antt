@@ -1,0 +1,2 @@
+pub mod ReadFronts
+pub mod Skipping
