@@ -21,7 +21,7 @@ pub use ir_locations::{Location, Source};
 pub use ir_print::{Directive, LeafSort, LeafValue, Number, Part, ValueSort};
 pub use ir_tokens::{ScopeCause, TextFault};
 pub use location_erasing::erase_locations;
-pub use name_tracker::{resolve_label, resolve_value};
+pub use name_tracker::{process_parsed_ssa_defs, resolve_label, resolve_value};
 pub use parsed_names::{DefineError, Known, NameScope, mention};
 pub use parsed_operands::{block_opd_parse, define_name, ssa_opd_parse};
 pub use printed_locations::{LocationText, location_text};
