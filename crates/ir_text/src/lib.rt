@@ -45,6 +45,7 @@ pub use text_streams::{
     hex_int_parse, int_parse, number_as_string_parse, parse_from_str, quoted_string_parse, spaced,
     state_stream_from_iterator,
 };
+pub use text_values::{attr_parse, type_parse};
 pub use text_writers::{
     Displayable, EnclosedText, InRegion, IndentGuard, IndentedNewliner, IterWithSep, IterWithSepBy,
     ListSeparator, ListWithSep, Printable, PrinterFn, QuotedText, RegionDepthGuard,

@@ -1,0 +1,4 @@
+pub mod FewKinds
+pub mod Leaves
+pub mod Parts
+pub mod Roots

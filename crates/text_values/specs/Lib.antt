@@ -1,0 +1,4 @@
+pub mod Contexts
+pub mod Laws
+pub mod Reads
+pub mod Refusals
