@@ -1,0 +1,60 @@
+-- What parts that were read are, and the parts that are printed.
+use Rattle.std.specs.Prelude.{ℕ, List, [], ◌∷◌, Option, Some, None, option_and_then}
+use Rattle.ir_names.specs.Dictionary.{with_attribute}
+use Rattle.ir_print.specs.declared.format.Part.{Part}
+use Rattle.ir_print.specs.declared.format.Part.TheVariants as parts
+use Rattle.ir_print.specs.declared.format.LeafValue.{LeafValue}
+use Rattle.ir_print.specs.declared.format.LeafValue.TheVariants as read
+use Rattle.ir_print.specs.declared.format.ValueSort.TheVariants as sorts
+use Rattle.ir_print.specs.Pieces.{Piece, value_of_kind, operands, successor, region, leaf, unsigned}
+use Rattle.example_dialect.specs.declared.dialect.Int.{Int}
+use Rattle.example_dialect.specs.declared.dialect.Number.{Number}
+use Rattle.example_dialect.specs.declared.dialect.CalcOp.{CalcOp}
+use Rattle.example_dialect.specs.declared.operations.Form.{Form}
+use Rattle.example_dialect.specs.declared.operations.Form.TheVariants as forms
+use Rattle.example_dialect.specs.Says.{used, value_key}
+
+-- the piece that a leaf shows, if the dialect has such pieces
+abbrev pub piece_of_leaf : LeafValue → Option Piece
+piece_of_leaf (read.Digits o) = option_and_then (λ n. used (leaf (unsigned n))) o
+piece_of_leaf other = None
+
+-- the attributes with this one, if there is one
+abbrev pub entries_of : Option Number → List (List ℕ × Number)
+entries_of (Some value) = with_attribute [] value_key value
+entries_of None = []
+
+module _ {D : Type 0} where
+  -- the piece that a part shows, if the dialect has such pieces
+  abbrev pub piece_of : Part D CalcOp Number Int → Option Piece
+  piece_of (parts.Operands n) = Some (operands n)
+  piece_of (parts.Successor n) = Some (successor n)
+  piece_of (parts.Attribute a) = Some (value_of_kind sorts.Attribute 0)
+  piece_of (parts.Type t) = None
+  piece_of parts.Region = Some region
+  piece_of (parts.Leaf v) = piece_of_leaf v
+  piece_of other = None
+
+  -- the attribute that a part is
+  abbrev pub value_part : Part D CalcOp Number Int → Option Number
+  value_part (parts.Operands n) = None
+  value_part (parts.Successor n) = None
+  value_part (parts.Attribute a) = Some a
+  value_part (parts.Type t) = None
+  value_part parts.Region = None
+  value_part (parts.Leaf v) = None
+  value_part other = None
+
+  abbrev pub value_in : List (Part D CalcOp Number Int) → Option Number
+  value_in (p ∷ []) = value_part p
+  value_in ps = None
+
+  -- the parts of an operation of a form with this attribute, if it has one, and so many operands
+  abbrev pub parts_of : Form → Option Number → ℕ → List (Part D CalcOp Number Int)
+  parts_of forms.Region value n = parts.Region ∷ []
+  parts_of forms.Value (Some value) n = parts.Attribute value ∷ []
+  parts_of forms.Operand value n = parts.Operands 1 ∷ []
+  parts_of forms.TwoOperands value n = parts.Operands 1 ∷ (parts.Operands 1 ∷ [])
+  parts_of forms.Edge value n = parts.Successor n ∷ []
+  parts_of forms.TwoEdges value n = parts.Operands 1 ∷ (parts.Successor 0 ∷ (parts.Successor 0 ∷ []))
+  parts_of form value n = []
