@@ -1,8 +1,6 @@
 -- What is made of parts, and what parts are printed.
-use Rattle.std.proofs.Common.{◌≡◌, ◌⊎◌, inl, inr, ℕ, zero, suc, ◌+◌, ◌^◌, ◌==◌, ◌&&◌, Bool, true, false, List, [], ◌∷◌, length, map, Option, Some, None, Result, Ok, Err, nat_lt, refl, sym, ap, ◌∙◌, subst, arith}
+use Rattle.std.proofs.Common.{◌≡◌, ◌⊎◌, inl, inr, ℕ, zero, suc, ◌+◌, ◌==◌, ◌&&◌, Bool, true, false, List, [], ◌∷◌, length, map, Option, Some, None, refl, sym, ap, ◌∙◌, subst, arith}
 use Rattle.std.specs.List.{slice_get}
-use Rattle.std.specs.Option.{option_map, unwrap_or}
-use Rattle.std.specs.Result.{IfOk}
 use Rattle.std.proofs.lemmas.Bool.{and_parts, eqb-true, false≢true}
 use Rattle.std.proofs.lemmas.Option.{none-some, same_Some}
 use Rattle.ir_base.specs.declared.types.TypeHandle.{TypeHandle}
@@ -13,15 +11,7 @@ use Rattle.ir_print.specs.declared.format.Part.TheVariants as parts
 use Rattle.ir_print.specs.declared.format.ValueSort.TheVariants as sorts
 use Rattle.ir_print.specs.Pieces.{Piece, value_of_kind, operands, successor, region, leaf, unsigned, Pieces}
 use Rattle.ir_print.specs.Shown.{Said, said_attribute, said_operands, said_successor, said_region, said_leaf, alone, Pairs, ShowsAll, ShowsParts, ShowsType, operands_said}
-use Rattle.ir_program.specs.Program.{Program, OperationView, operation_at}
-use Rattle.ir_program.specs.Rows.{operands_at}
-use Rattle.ir_program.specs.declared.handles.Ptr.{Ptr}
-use Rattle.ir_program.specs.declared.handles.Operation.{Operation}
-use Rattle.ir_context.specs.Kept.{kind_at, notes_at}
-use Rattle.ir_context.specs.declared.notes.OperationData.{OperationData}
-use Rattle.ir_context.specs.declared.notes.OperationNotes.{OperationNotes}
 use Rattle.text_dialect.specs.Making as made
-use Rattle.text_dialect.specs.Seen.{SeenOperation, seen_operation}
 use Rattle.example_dialect.specs.declared.dialect.Int.{Int}
 use Rattle.example_dialect.specs.declared.dialect.Number.{Number}
 use Rattle.example_dialect.specs.declared.dialect.Single.{Single}
@@ -31,9 +21,10 @@ use Rattle.example_dialect.specs.declared.operations.Form.{Form}
 use Rattle.example_dialect.specs.declared.operations.Form.TheVariants as forms
 use Rattle.example_dialect.specs.Forms.{form_of, number_of, read_ops, read_single}
 use Rattle.example_dialect.specs.Making.{entries_of, piece_of, value_in, value_part, parts_of}
-use Rattle.example_dialect.specs.Readable.{heard_as, number_heard, has_value, used_number}
-use Rattle.example_dialect.specs.Says.{says, values, one, two, three, only, numbered, said_in, said_plainly, said_of_value, value_key, said_of_attribute, is_region, is_value, is_operand, is_edge, is_bare_edge, used, labels, fits, number_in, number_of_piece, is_number, refused_by, refused_unless, types_in, types_by, int}
-use Rattle.example_dialect.specs.Seen.{only_if, attribute_says, none_is, one_is, two_is, three_is, parts_read, said_labels}
+use Rattle.example_dialect.specs.Readable.{attribute_says, known, heard_as, number_heard, has_value}
+use Rattle.example_dialect.specs.Says.{says, values, attr_number, numbered, said_in, said_plainly, said_of_value, value_key, said_of_attribute, is_region, is_value, is_operand, is_edge, is_bare_edge, fits, number_in, number_of_piece, is_number, refused_by, refused_unless, types_in, types_by, int}
+use Rattle.text_laws.specs.Heard as heard
+use Rattle.text_laws.specs.Labels.{one, two, three, only, only_if, labels, none_is, one_is, two_is, three_is, small_number}
 
 -- ---- kinds
 
@@ -89,10 +80,6 @@ one_number : (ls : List (Option Piece)) (n : ℕ) → number_in ls ≡ Some n �
 one_number [] n e = absurd (none-some n e)
 one_number (o ∷ []) n e = ap (λ (p : Option Piece). p ∷ []) (number_is o n e)
 one_number (o ∷ (p ∷ ls)) n e = absurd (none-some n e)
-
--- a piece that the dialect has, which is a number, is of at most 64 bits
-small_number : (n : ℕ) → used (leaf (unsigned n)) ≡ Some (leaf (unsigned n)) → nat_lt n (2 ^ 64) ≡ true
-small_number n e = (only_if (nat_lt n (2 ^ 64)) (Some (leaf (unsigned n))) (leaf (unsigned n)) e).0
 
 -- what an attribute says does not rest on types
 attribute_later : (old new : List Int) (a : Number) (n : ℕ) (us : Trees (Said Number)) (ts : Pieces) → said_of_attribute a ≡ Some (n, us) → ShowsAll says old us ts → ShowsAll says new us ts
@@ -200,7 +187,7 @@ module _ {D : Type 0} where
       fits (form_of kind) (map piece_of qs) ≡ true → attributes ≡ entries_of (value_in qs) → Pairs (ShowsType says new) tys (types_in kind) →
       made.MakesOperation says values (slice_get read_ops) kind old new qs attributes tys
   operation_made kind old new qs attributes tys e same typed n ps at h =
-      let fit = ap (fits (form_of kind)) (sym (parts_read old qs ps h)) ∙ e in
+      let fit = ap (fits (form_of kind)) (sym (heard.parts_read attr_number says known old qs ps h)) ∙ e in
       let draft = drafts (form_of kind) old new qs ps (labels ps) refl h fit in
       let number = op_number n kind at in (
         ap (λ k. refused_by k ps) at ∙ ap refused_unless fit,
@@ -217,7 +204,7 @@ module _ {D : Type 0} where
   pub operation_refused : (kind : CalcOp) (old : List Int) (qs : List (Part D CalcOp Number Int)) (i : ℕ) →
       fits (form_of kind) (map piece_of qs) ≡ false → 0 ≡ i → made.RefusesOperation says values (slice_get read_ops) kind old qs i
   operation_refused kind old qs i e zero_is n ps at h =
-      ap (λ k. refused_by k ps) at ∙ (ap refused_unless (ap (fits (form_of kind)) (sym (parts_read old qs ps h)) ∙ e) ∙ ap Some zero_is)
+      ap (λ k. refused_by k ps) at ∙ (ap refused_unless (ap (fits (form_of kind)) (sym (heard.parts_read attr_number says known old qs ps h)) ∙ e) ∙ ap Some zero_is)
 
   -- the type is made of no parts
   pub type_made : (kind : Single) (key : Int) (qs : List (Part D CalcOp Number Int)) → length qs ≡ 0 → made.MakesType says values read_single kind qs key
@@ -230,7 +217,7 @@ module _ {D : Type 0} where
   pub attribute_made : (kind : Single) (old new : List Int) (qs : List (Part D CalcOp Number Int)) (a : Number) → number_in (map piece_of qs) ≡ Some a.value →
       made.MakesAttribute says values read_single kind old new qs a
   attribute_made kind old new qs a e zero ps at h =
-      let here : labels ps ≡ Some (leaf (unsigned a.value)) ∷ [] = sym (parts_read old qs ps h) ∙ one_number (map piece_of qs) a.value e in
+      let here : labels ps ≡ Some (leaf (unsigned a.value)) ∷ [] = sym (heard.parts_read attr_number says known old qs ps h) ∙ one_number (map piece_of qs) a.value e in
       let piece = one_is ps (leaf (unsigned a.value)) here in
       let small = small_number a.value (ap first_label (ap labels (sym piece.1) ∙ here)) in (
         ap (λ ls. refused_unless (is_number (number_in ls))) here,
@@ -249,42 +236,6 @@ module _ {D : Type 0} where
   attribute_made kind old new qs a e (suc n) ps at h = absurd (none-some kind at)
 
 -- ---- what is printed
-
--- what follows for each value follows for that of a result
-pub if_ok : {X E : Type 0} (r : Result X E) (P Q : X → Type 0) → IfOk r P → ((x : X) → P x → Q x) → IfOk r Q
-if_ok (Ok x) P Q h k = k x h
-if_ok (Err fault) P Q h k = tt
-
--- what is seen of an operation is what it is
-seen_so : {O K A : Type 0} (f : OperationView O → SeenOperation K A) (v : Option (OperationView O)) (o : SeenOperation K A) → option_map f v ≡ Some o →
-    (u : OperationView O) × (v ≡ Some u) × (f u ≡ o)
-seen_so f (Some u) o e = (u, refl, same_Some (f u) o e)
-seen_so f None o e = absurd (none-some o e)
-
-module _ {D TypeKind AttrKind TypeBody Saved Location B : Type 0} (c : Program (OperationData D TypeKind AttrKind TypeBody Saved Location CalcOp Number Int) B)
-    (p : Ptr Operation) (o : SeenOperation CalcOp Number) where
-  abbrev View : Type 0
-  View = OperationView (OperationData D TypeKind AttrKind TypeBody Saved Location CalcOp Number Int)
-
-  abbrev Notes : Type 0
-  Notes = OperationNotes D TypeKind AttrKind TypeBody Saved Location CalcOp Number Int
-
-  pub seen_kind : option_map seen_operation (operation_at c p) ≡ Some o → (k : CalcOp) → kind_at c p ≡ Some k → o.kind ≡ k
-  seen_kind at k e =
-      let s = seen_so seen_operation (operation_at c p) o at in
-      sym (ap (λ (v : SeenOperation CalcOp Number). v.kind) s.2)
-      ∙ same_Some s.0.payload.kind k (sym (ap (λ v. option_map (λ d. d.kind) (option_map (λ (u : View). u.payload) v)) s.1) ∙ e)
-
-  pub seen_entries : option_map seen_operation (operation_at c p) ≡ Some o → (n : Notes) → notes_at c p ≡ Some n → n.attributes ≡ o.attributes
-  seen_entries at n e =
-      let s = seen_so seen_operation (operation_at c p) o at in
-      let same : s.0.payload.notes ≡ n = same_Some s.0.payload.notes n (sym (ap (λ v. option_map (λ d. d.notes) (option_map (λ (u : View). u.payload) v)) s.1) ∙ e) in
-      sym (ap (λ (m : Notes). m.attributes) same) ∙ ap (λ (v : SeenOperation CalcOp Number). v.attributes) s.2
-
-  pub seen_operands : option_map seen_operation (operation_at c p) ≡ Some o → operands_at c p ≡ o.operands
-  seen_operands at =
-      let s = seen_so seen_operation (operation_at c p) o at in
-      ap (λ v. unwrap_or (option_map (λ (u : View). u.operands) v) []) s.1 ∙ ap (λ (v : SeenOperation CalcOp Number). v.operands) s.2
 
 module _ (D : Type 0) where
   -- an operation of a form has its parts

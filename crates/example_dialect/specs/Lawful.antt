@@ -1,6 +1,6 @@
 -- What the dialect says to the optimisations is lawful.
-use Rattle.std.proofs.Common.{◌≡◌, ℕ, ◌<◌, Bool, true, false, not, List, [], ◌∷◌, Option, Some, None, length, refl, sym, ap, ◌∙◌, subst}
-use Rattle.std.specs.Prelude.{◌&&◌, nat_eq, slice_get}
+use Rattle.std.proofs.Common.{◌≡◌, ℕ, ◌<◌, Bool, true, List, [], ◌∷◌, Option, Some, None, length, refl, sym, ap, subst}
+use Rattle.std.specs.Prelude.{nat_eq, slice_get}
 use Rattle.std.proofs.lemmas.Bool.{and_parts, eqb-true, false≢true}
 use Rattle.std.proofs.lemmas.Option.{none-some, same_Some}
 use Rattle.ir_base.specs.declared.types.TypeHandle.{TypeHandle}
@@ -16,7 +16,6 @@ use Rattle.example_dialect.specs.declared.dialect.CalcOp.TheVariants as ops
 use Rattle.example_dialect.specs.declared.meaning.TypedNumber.{TypedNumber}
 use Rattle.example_dialect.specs.Kinds.{op_has}
 use Rattle.example_dialect.specs.Meaning.{CalcOperation, Entries, calc, value_of, sum_of, typed, is_foldable, edge_on, edge_of, feasible_of, forwards_of, is_const, is_br, const_of, operation_of}
-use Rattle.example_dialect.specs.Says.{value_key}
 
 -- ---- folds
 

@@ -1,23 +1,16 @@
 -- What parts that were read are, and the parts that are printed.
-use Rattle.std.specs.Prelude.{ℕ, List, [], ◌∷◌, Option, Some, None, option_and_then}
+use Rattle.std.specs.Prelude.{ℕ, List, [], ◌∷◌, Option, Some, None}
 use Rattle.ir_names.specs.Dictionary.{with_attribute}
 use Rattle.ir_print.specs.declared.format.Part.{Part}
 use Rattle.ir_print.specs.declared.format.Part.TheVariants as parts
-use Rattle.ir_print.specs.declared.format.LeafValue.{LeafValue}
-use Rattle.ir_print.specs.declared.format.LeafValue.TheVariants as read
-use Rattle.ir_print.specs.declared.format.ValueSort.TheVariants as sorts
-use Rattle.ir_print.specs.Pieces.{Piece, value_of_kind, operands, successor, region, leaf, unsigned}
+use Rattle.ir_print.specs.Pieces.{Piece}
 use Rattle.example_dialect.specs.declared.dialect.Int.{Int}
 use Rattle.example_dialect.specs.declared.dialect.Number.{Number}
 use Rattle.example_dialect.specs.declared.dialect.CalcOp.{CalcOp}
 use Rattle.example_dialect.specs.declared.operations.Form.{Form}
 use Rattle.example_dialect.specs.declared.operations.Form.TheVariants as forms
-use Rattle.example_dialect.specs.Says.{used, value_key}
-
--- the piece that a leaf shows, if the dialect has such pieces
-abbrev pub piece_of_leaf : LeafValue → Option Piece
-piece_of_leaf (read.Digits o) = option_and_then (λ n. used (leaf (unsigned n))) o
-piece_of_leaf other = None
+use Rattle.example_dialect.specs.Says.{attr_number, value_key}
+use Rattle.text_laws.specs.Heard as heard
 
 -- the attributes with this one, if there is one
 abbrev pub entries_of : Option Number → List (List ℕ × Number)
@@ -25,15 +18,9 @@ entries_of (Some value) = with_attribute [] value_key value
 entries_of None = []
 
 module _ {D : Type 0} where
-  -- the piece that a part shows, if the dialect has such pieces
+  -- the piece that a part shows, if it is one that is looked into
   abbrev pub piece_of : Part D CalcOp Number Int → Option Piece
-  piece_of (parts.Operands n) = Some (operands n)
-  piece_of (parts.Successor n) = Some (successor n)
-  piece_of (parts.Attribute a) = Some (value_of_kind sorts.Attribute 0)
-  piece_of (parts.Type t) = None
-  piece_of parts.Region = Some region
-  piece_of (parts.Leaf v) = piece_of_leaf v
-  piece_of other = None
+  piece_of p = heard.piece_of attr_number p
 
   -- the attribute that a part is
   abbrev pub value_part : Part D CalcOp Number Int → Option Number

@@ -1,11 +1,11 @@
 -- What the type, attributes and operations say has the shape of their formats, and can be read.
-use Rattle.std.specs.Prelude.{◌≡◌, ℕ, zero, suc, ◌+◌, ◌^◌, ◌==◌, ◌&&◌, nat_lt, Bool, true, List, [], ◌∷◌, length, Option, Some, None, is_some, option_map, slice_get, refl}
+use Rattle.std.specs.Prelude.{◌≡◌, ℕ, zero, suc, ◌+◌, ◌^◌, ◌==◌, ◌&&◌, nat_lt, true, List, [], ◌∷◌, length, Option, Some, None, is_some, option_map, slice_get, refl}
 use Rattle.std.proofs.Common.{sym, ap, ◌∙◌, subst, arith}
 use Rattle.std.proofs.lemmas.Bool.{and_parts, eqb-true, ltb-true, true≢false}
 use Rattle.std.proofs.lemmas.Option.{none-some, same_Some, some_pair_parts, slice_get-map}
 use Rattle.ir_base.specs.declared.types.TypeHandle.{TypeHandle}
 use Rattle.ir_names.specs.Dictionary.{attribute_at}
-use Rattle.ir_names.specs.Tree.{Trees, node, no_tree}
+use Rattle.ir_names.specs.Tree.{Trees, no_tree}
 use Rattle.ir_print.specs.Pieces.{Piece, value_of_kind, operands, successor, region, leaf, unsigned, Pieces}
 use Rattle.ir_print.specs.declared.format.ValueSort.TheVariants as sorts
 use Rattle.ir_print.specs.Shapes.{parts_in, AreSaidAt, IsTypeSaid, IsAttributeSaid, SaysTypes, SaysAttributes, SaysOperations}
@@ -17,8 +17,10 @@ use Rattle.example_dialect.specs.declared.dialect.CalcOp.TheVariants as ops
 use Rattle.example_dialect.specs.declared.operations.Form.{Form}
 use Rattle.example_dialect.specs.declared.operations.Form.TheVariants as forms
 use Rattle.example_dialect.specs.Forms.{form_of, number_of, read_ops, read_single, steps_in, formats, op_kind, type_form, attr_form}
-use Rattle.example_dialect.specs.Says.{says, values, one, two, three, only, numbered, said_in, said_plainly, said_of_value, value_key, said_of_attribute, is_number, number_in, number_of_piece, used, labels, fits, refused_unless, refused_attribute, refused_operation, refused_by, refused_type, result_types, types_by}
-use Rattle.example_dialect.specs.Seen.{only_if, attribute_says, all_heard, said_labels, none_is, one_is, two_is, three_is}
+use Rattle.example_dialect.specs.Says.{says, values, attr_number, numbered, said_in, said_plainly, said_of_value, value_key, said_of_attribute, is_number, number_in, fits, refused_unless, refused_attribute, refused_operation, refused_by, refused_type, result_types, types_by}
+use Rattle.text_laws.specs.Heard as heard
+use Rattle.text_laws.specs.Heard.{SaysNumber}
+use Rattle.text_laws.specs.Labels.{one, two, three, only_if, labels, none_is, one_is, two_is, three_is, whole_number}
 
 -- the kinds with numbers have the formats with these numbers
 pub operation_formats : (n : ℕ) → slice_get formats.operations n ≡ option_map op_kind (slice_get read_ops n)
@@ -30,9 +32,20 @@ type_formats n = slice_get-map type_form read_single n
 pub attribute_formats : (n : ℕ) → slice_get formats.attributes n ≡ option_map attr_form (slice_get read_single n)
 attribute_formats n = slice_get-map attr_form read_single n
 
--- the pieces that show this are known by what they are
-pub heard_as : (types : List Int) (vs us : Trees (Said Number)) (ps : Pieces) → vs ≡ us → ShowsAll says types us ps → labels ps ≡ said_labels vs
-heard_as types vs us ps e h = sym (all_heard types us ps h) ∙ ap said_labels (sym e)
+-- an attribute says itself
+pub attribute_says : (a : Number) (n : ℕ) (us : Trees (Said Number)) → said_of_attribute a ≡ Some (n, us) →
+    (nat_lt a.value (2 ^ 64) ≡ true) × (0 ≡ n) × (one (alone (said_leaf (unsigned a.value))) ≡ us)
+attribute_says a n us e =
+    let said = only_if (nat_lt a.value (2 ^ 64)) (Some (0, one (alone (said_leaf (unsigned a.value))))) (n, us) e in
+    let same = some_pair_parts 0 n (one (alone (said_leaf (unsigned a.value)))) us said.1 in
+    (said.0, same.0, same.1)
+
+pub known : SaysNumber attr_number says
+known a n us e = (attribute_says a n us e).1
+
+-- pieces that show this are known by what they are
+pub heard_as : (types : List Int) (vs us : Trees (Said Number)) (ps : Pieces) → vs ≡ us → ShowsAll says types us ps → labels ps ≡ heard.said_labels attr_number vs
+heard_as types vs us ps e h = heard.heard_as attr_number says known types vs us ps e h
 
 -- ---- the type and attributes
 
@@ -47,15 +60,11 @@ says_types types key n us ps e h =
       read = ap (refused_type 0) (none_is ps (heard_as types no_tree us ps same.1 h));
     }))
 
--- the dialect has the piece of a number of at most 64 bits
-pub used_number : (n : ℕ) → nat_lt n (2 ^ 64) ≡ true → used (leaf (unsigned n)) ≡ Some (leaf (unsigned n))
-used_number n small = ap (λ (b : Bool). only b (Some (leaf (unsigned n)))) small
-
 -- what a number is shown by
 pub number_heard : (types : List Int) (a : Number) (us : Trees (Said Number)) (ps : Pieces) → nat_lt a.value (2 ^ 64) ≡ true → one (alone (said_leaf (unsigned a.value))) ≡ us →
     ShowsAll says types us ps → labels ps ≡ Some (leaf (unsigned a.value)) ∷ []
 number_heard types a us ps small e h =
-    heard_as types (one (alone (said_leaf (unsigned a.value)))) us ps e h ∙ ap (λ (o : Option Piece). o ∷ []) (used_number a.value small)
+    heard_as types (one (alone (said_leaf (unsigned a.value)))) us ps e h ∙ ap (λ (o : Option Piece). o ∷ []) (whole_number a.value small)
 
 pub says_attributes : SaysAttributes says formats values
 says_attributes types a n us ps e h =

@@ -1,7 +1,7 @@
 -- What the type, attributes and operations say, and which pieces are refused.
 use Rattle.std.specs.Prelude.{ℕ, zero, suc, ◌^◌, ◌==◌, ◌&&◌, nat_lt, Bool, true, false, List, [], ◌∷◌, length, Option, Some, None, option_map, slice_get, codes}
 use Rattle.ir_names.specs.Dictionary.{attribute_at}
-use Rattle.ir_names.specs.Tree.{LabelledTree, Trees, node, no_tree, a_tree, label_of}
+use Rattle.ir_names.specs.Tree.{Trees, node, no_tree}
 use Rattle.ir_print.specs.Pieces.{Piece, value_of_kind, operands, successor, region, leaf, unsigned, ValueTree, Pieces, Values}
 use Rattle.ir_print.specs.declared.format.ValueSort.TheVariants as sorts
 use Rattle.ir_print.specs.Shown.{Said, said_attribute, said_operands, said_successor, said_region, said_leaf, alone, Saying}
@@ -11,24 +11,10 @@ use Rattle.example_dialect.specs.declared.dialect.CalcOp.{CalcOp}
 use Rattle.example_dialect.specs.declared.dialect.CalcOp.TheVariants as ops
 use Rattle.example_dialect.specs.declared.operations.Form.{Form}
 use Rattle.example_dialect.specs.declared.operations.Form.TheVariants as forms
-use Rattle.example_dialect.specs.Forms.{form_of, number_of, read_ops, read_single}
+use Rattle.example_dialect.specs.Forms.{form_of, number_of, read_ops}
+use Rattle.text_laws.specs.Labels.{one, two, three, only, labels}
 
 -- ---- what is in a context
-
--- one tree, two, and three
-abbrev pub one : {L : Type 0} → LabelledTree L → Trees L
-one t = a_tree t no_tree
-
-abbrev pub two : {L : Type 0} → (t u : LabelledTree L) → Trees L
-two t u = a_tree t (one u)
-
-abbrev pub three : {L : Type 0} → (t u v : LabelledTree L) → Trees L
-three t u v = a_tree t (two u v)
-
--- what is said, where this holds
-abbrev pub only : {X : Type 0} → Bool → Option X → Option X
-only true said = said
-only false said = None
 
 -- the key of the attribute that a constant holds
 abbrev pub value_key : List ℕ
@@ -37,6 +23,10 @@ value_key = codes "calc_value"
 -- the type says nothing beside its name
 abbrev pub said_of_type : Int → Option (ℕ × Trees (Said Number))
 said_of_type key = Some (0, no_tree)
+
+-- the number of the kind of an attribute
+abbrev pub attr_number : Number → ℕ
+attr_number a = 0
 
 -- a number of at most 64 bits says itself
 abbrev pub said_of_attribute : Number → Option (ℕ × Trees (Said Number))
@@ -80,24 +70,6 @@ says = record {
 abbrev pub refused_unless : Bool → Option ℕ
 refused_unless true = None
 refused_unless false = Some 0
-
--- the dialect has such pieces: attributes, operands, edges, regions, and numbers of at most 64 bits
-abbrev pub is_used : Piece → Bool
-is_used (value_of_kind sorts.Attribute k) = true
-is_used (operands n) = true
-is_used (successor n) = true
-is_used region = true
-is_used (leaf (unsigned n)) = nat_lt n (2 ^ 64)
-is_used p = false
-
--- the piece, if the dialect has such pieces
-abbrev pub used : Piece → Option Piece
-used p = only (is_used p) (Some p)
-
--- each of the pieces, if the dialect has such pieces
-abbrev pub labels : Pieces → List (Option Piece)
-labels no_tree = []
-labels (a_tree t ts) = used (label_of t) ∷ labels ts
 
 -- what one piece is
 abbrev pub is_region : Option Piece → Bool

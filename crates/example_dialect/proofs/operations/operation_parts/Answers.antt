@@ -5,7 +5,8 @@ use Rattle.example_dialect.specs.Forms.{form_of, number_of}
 use Rattle.example_dialect.specs.Making.{parts_of}
 use Rattle.example_dialect.specs.Says.{says, said_in, value_key}
 use Rattle.example_dialect.specs.Readable.{is_numbered}
-use Rattle.example_dialect.proofs.Made.{if_ok, seen_kind, seen_entries, seen_operands, operation_parted}
+use Rattle.text_laws.specs.Views.{if_ok, seen_kind, seen_entries, seen_operands}
+use Rattle.example_dialect.proofs.Made.{operation_parted}
 use Rattle.example_dialect.proofs.operations.operation_parts.Goals as goal
 
 pub returns : goal.returns

@@ -1,0 +1,4 @@
+pub mod Labels
+pub mod Heard
+pub mod Views
+pub mod Laws
