@@ -10,7 +10,7 @@ use Rattle.ir_print.specs.declared.format.Part.{Part}
 use Rattle.ir_print.specs.declared.format.Part.TheVariants as parts
 use Rattle.ir_print.specs.declared.format.ValueSort.TheVariants as sorts
 use Rattle.ir_print.specs.Pieces.{Piece, value_of_kind, operands, successor, region, leaf, unsigned, Pieces}
-use Rattle.ir_print.specs.Shown.{Said, said_attribute, said_operands, said_successor, said_region, said_leaf, alone, Pairs, ShowsAll, ShowsParts, ShowsType, operands_said}
+use Rattle.ir_print.specs.Shown.{Said, said_attribute, said_leaf, alone, Pairs, ShowsAll, ShowsParts, ShowsType, operands_said}
 use Rattle.text_dialect.specs.Making as made
 use Rattle.example_dialect.specs.declared.dialect.Int.{Int}
 use Rattle.example_dialect.specs.declared.dialect.Number.{Number}
@@ -20,11 +20,12 @@ use Rattle.example_dialect.specs.declared.dialect.CalcOp.TheVariants as ops
 use Rattle.example_dialect.specs.declared.operations.Form.{Form}
 use Rattle.example_dialect.specs.declared.operations.Form.TheVariants as forms
 use Rattle.example_dialect.specs.Forms.{form_of, number_of, read_ops, read_single}
-use Rattle.example_dialect.specs.Making.{entries_of, piece_of, value_in, value_part, parts_of}
-use Rattle.example_dialect.specs.Readable.{attribute_says, known, heard_as, number_heard, has_value}
-use Rattle.example_dialect.specs.Says.{says, values, attr_number, numbered, said_in, said_plainly, said_of_value, value_key, said_of_attribute, is_region, is_value, is_operand, is_edge, is_bare_edge, fits, number_in, number_of_piece, is_number, refused_by, refused_unless, types_in, types_by, int}
+use Rattle.example_dialect.specs.Making.{entries_of, piece_of, parts_of}
+use Rattle.example_dialect.specs.Readable.{attribute_says, known, heard_as, number_heard, has_value, has_plain, plain_heard}
+use Rattle.example_dialect.specs.Says.{says, values, attr_number, numbered, said_in, plain_of, said_plainly, said_of_value, value_key, said_of_attribute, is_region, is_value, is_operand, is_edge, is_bare_edge, fits, number_in, number_of_piece, is_number, refused_by, refused_unless, types_in, types_by, int}
 use Rattle.text_laws.specs.Heard as heard
-use Rattle.text_laws.specs.Labels.{one, two, three, only, only_if, labels, none_is, one_is, two_is, three_is, small_number}
+use Rattle.text_laws.specs.Plain.{Plain, some_operands, an_edge, a_region, all_said, all_parts, pieces, total, no_value, value_in, value_part, plainly_counted, plainly_parted, plainly_shown}
+use Rattle.text_laws.specs.Labels.{one, only, only_if, labels, one_is, small_number}
 
 -- ---- kinds
 
@@ -60,6 +61,10 @@ value_is : (o : Option Piece) → is_value o ≡ true → (n : ℕ) × (o ≡ So
 value_is (Some (value_of_kind sorts.Attribute n)) e = (n, refl)
 value_is o e = absurd (false≢true e)
 
+one_value : (ls : List (Option Piece)) → fits forms.Value ls ≡ true → (n : ℕ) × (ls ≡ Some (value_of_kind sorts.Attribute n) ∷ [])
+one_value (o ∷ []) e = let value = value_is o e in (value.0, ap (λ (x : Option Piece). x ∷ []) value.1)
+one_value ls e = absurd (false≢true e)
+
 operand_is : (o : Option Piece) → is_operand o ≡ true → o ≡ Some (operands 1)
 operand_is (Some (operands n)) e = ap (λ (k : ℕ). Some (operands k)) (eqb-true n 1 e)
 operand_is o e = absurd (false≢true e)
@@ -89,6 +94,38 @@ attribute_later old new a n us ts e h =
     subst (λ (vs : Trees (Said Number)). ShowsAll says new vs ts) said.2
     (subst (λ (qs : Pieces). ShowsAll says new (one (alone (said_leaf (unsigned a.value)))) qs) (sym piece.1) (refl, tt))
 
+-- what fits a form is what an operation of it says, but for an attribute
+record Plainly (form : Form) (ls : List (Option Piece)) : Type 0 where
+  pub parts : List Plain
+  pub known : ls ≡ pieces parts
+  pub said : plain_of form (total parts) ≡ Some parts
+
+plainly : (form : Form) (ls : List (Option Piece)) → (form ≡ forms.Value → ⊥) → fits form ls ≡ true → Plainly form ls
+plainly forms.Region (o ∷ []) v e = record { parts = a_region ∷ []; known = ap (λ (x : Option Piece). x ∷ []) (region_is o e); said = refl }
+plainly forms.Operand (o ∷ []) v e = record { parts = some_operands 1 ∷ []; known = ap (λ (x : Option Piece). x ∷ []) (operand_is o e); said = refl }
+plainly forms.TwoOperands (o ∷ (u ∷ [])) v e =
+    let both = and_parts (is_operand o) (is_operand u) e in
+    record { parts = some_operands 1 ∷ (some_operands 1 ∷ []); known = λ i. operand_is o both.0 i ∷ (operand_is u both.1 i ∷ []); said = refl }
+plainly forms.Edge (o ∷ []) v e =
+    let edge = edge_is o e in let same : edge.0 + 0 ≡ edge.0 = omega arith in
+    record { parts = an_edge edge.0 ∷ []; known = ap (λ (x : Option Piece). x ∷ []) edge.1; said = ap (λ (n : ℕ). Some (an_edge n ∷ [])) same }
+plainly forms.TwoEdges (o ∷ (u ∷ (w ∷ []))) v e =
+    let all = and_parts (is_operand o && is_bare_edge u) (is_bare_edge w) e in
+    let both = and_parts (is_operand o) (is_bare_edge u) all.0 in
+    record {
+      parts = some_operands 1 ∷ (an_edge 0 ∷ (an_edge 0 ∷ []));
+      known = λ i. operand_is o both.0 i ∷ (bare_edge_is u both.1 i ∷ (bare_edge_is w all.1 i ∷ []));
+      said = refl;
+    }
+plainly forms.Nothing [] v e = record { parts = []; known = refl; said = refl }
+plainly forms.Value ls v e = absurd (v refl)
+plainly form ls v e = absurd (false≢true e)
+
+-- an operation without an attribute says what is plain
+said_alone : (form : Form) (n : ℕ) (xs : List Plain) → plain_of form n ≡ Some xs → said_in form [] n ≡ Some (all_said xs)
+said_alone forms.Value n xs e = absurd (none-some xs e)
+said_alone form n xs e = ap said_plainly e
+
 -- ---- operations that are made
 
 module _ {D : Type 0} where
@@ -97,11 +134,6 @@ module _ {D : Type 0} where
     pub pieces : Trees (Said Number)
     pub said : said_in form (entries_of (value_in qs)) (operands_said ps) ≡ Some pieces
     pub shown : ShowsAll says new pieces ps
-
-  region_drafts : (old new : List Int) (qs : List (Part D CalcOp Number Int)) (ts : Pieces) → ShowsParts says old qs (one (node region ts)) → Draft forms.Region new qs (one (node region ts))
-  region_drafts old new [] ts h = absurd h
-  region_drafts old new (q ∷ []) ts h = record { pieces = one (alone said_region); said = ap (λ o. said_in forms.Region (entries_of o) 0) (ap value_part h.0); shown = (refl, tt) }
-  region_drafts old new (q ∷ (r ∷ qs)) ts h = absurd h.1
 
   value_drafts : (old new : List Int) (qs : List (Part D CalcOp Number Int)) (n : ℕ) (ts : Pieces) → ShowsParts says old qs (one (node (value_of_kind sorts.Attribute n) ts)) →
       Draft forms.Value new qs (one (node (value_of_kind sorts.Attribute n) ts))
@@ -115,72 +147,20 @@ module _ {D : Type 0} where
       }
   value_drafts old new (q ∷ (r ∷ qs)) n ts h = absurd h.1
 
-  operand_drafts : (old new : List Int) (qs : List (Part D CalcOp Number Int)) (ts : Pieces) → ShowsParts says old qs (one (node (operands 1) ts)) → Draft forms.Operand new qs (one (node (operands 1) ts))
-  operand_drafts old new [] ts h = absurd h
-  operand_drafts old new (q ∷ []) ts h = record { pieces = one (alone (said_operands 1)); said = ap (λ o. said_in forms.Operand (entries_of o) 1) (ap value_part h.0); shown = (refl, tt) }
-  operand_drafts old new (q ∷ (r ∷ qs)) ts h = absurd h.1
+  plain_draft : (form : Form) (old new : List Int) (qs : List (Part D CalcOp Number Int)) (ps : Pieces) → Plainly form (labels ps) → ShowsParts says old qs ps → Draft form new qs ps
+  plain_draft form old new qs ps plain h = record {
+    pieces = all_said plain.parts;
+    said = (λ i. said_in form (entries_of (no_value says old plain.parts ps qs plain.known h i)) (plainly_counted plain.parts ps plain.known i))
+        ∙ said_alone form (total plain.parts) plain.parts plain.said;
+    shown = plainly_shown says new plain.parts ps plain.known;
+  }
 
-  pair_drafts : (old new : List Int) (qs : List (Part D CalcOp Number Int)) (ts us : Pieces) → ShowsParts says old qs (two (node (operands 1) ts) (node (operands 1) us)) →
-      Draft forms.TwoOperands new qs (two (node (operands 1) ts) (node (operands 1) us))
-  pair_drafts old new [] ts us h = absurd h
-  pair_drafts old new (q ∷ []) ts us h = absurd h.1
-  pair_drafts old new (q ∷ (r ∷ qs)) ts us h = record { pieces = two (alone (said_operands 1)) (alone (said_operands 1)); said = refl; shown = (refl, (refl, tt)) }
-
-  edge_drafts : (old new : List Int) (qs : List (Part D CalcOp Number Int)) (n : ℕ) (ts : Pieces) → ShowsParts says old qs (one (node (successor n) ts)) → Draft forms.Edge new qs (one (node (successor n) ts))
-  edge_drafts old new [] n ts h = absurd h
-  edge_drafts old new (q ∷ []) n ts h =
-      let plain : n + 0 ≡ n = omega arith in
-      record {
-        pieces = one (alone (said_successor (n + 0)));
-        said = ap (λ o. said_in forms.Edge (entries_of o) (n + 0)) (ap value_part h.0);
-        shown = (ap (λ (k : ℕ). alone (said_successor k)) plain, tt);
-      }
-  edge_drafts old new (q ∷ (r ∷ qs)) n ts h = absurd h.1
-
-  edges_drafts : (old new : List Int) (qs : List (Part D CalcOp Number Int)) (ts us vs : Pieces) → ShowsParts says old qs (three (node (operands 1) ts) (node (successor 0) us) (node (successor 0) vs)) →
-      Draft forms.TwoEdges new qs (three (node (operands 1) ts) (node (successor 0) us) (node (successor 0) vs))
-  edges_drafts old new [] ts us vs h = absurd h
-  edges_drafts old new (q ∷ []) ts us vs h = absurd h.1
-  edges_drafts old new (q ∷ (r ∷ qs)) ts us vs h =
-      record { pieces = three (alone (said_operands 1)) (alone (said_successor 0)) (alone (said_successor 0)); said = refl; shown = (refl, (refl, (refl, tt))) }
-
-  nothing_drafts : (old new : List Int) (qs : List (Part D CalcOp Number Int)) → ShowsParts says old qs no_tree → Draft forms.Nothing new qs no_tree
-  nothing_drafts old new [] h = record { pieces = no_tree; said = refl; shown = tt }
-  nothing_drafts old new (q ∷ qs) h = absurd h
-
-  -- with pieces that are these
-  drafts_as : (form : Form) (old new : List Int) (qs : List (Part D CalcOp Number Int)) (ps rs : Pieces) → ps ≡ rs → ShowsParts says old qs ps → (ShowsParts says old qs rs → Draft form new qs rs) → Draft form new qs ps
-  drafts_as form old new qs ps rs e h k = subst (λ (us : Pieces). Draft form new qs us) (sym e) (k (subst (λ (us : Pieces). ShowsParts says old qs us) e h))
-
-  drafts : (form : Form) (old new : List Int) (qs : List (Part D CalcOp Number Int)) (ps : Pieces) (ls : List (Option Piece)) → labels ps ≡ ls → ShowsParts says old qs ps → fits form ls ≡ true → Draft form new qs ps
-  drafts forms.Region old new qs ps (o ∷ []) at h e =
-      let piece = one_is ps region (at ∙ ap (λ (x : Option Piece). x ∷ []) (region_is o e)) in
-      drafts_as forms.Region old new qs ps (one (node region piece.0)) piece.1 h (region_drafts old new qs piece.0)
-  drafts forms.Value old new qs ps (o ∷ []) at h e =
-      let value = value_is o e in
-      let piece = one_is ps (value_of_kind sorts.Attribute value.0) (at ∙ ap (λ (x : Option Piece). x ∷ []) value.1) in
-      drafts_as forms.Value old new qs ps (one (node (value_of_kind sorts.Attribute value.0) piece.0)) piece.1 h (value_drafts old new qs value.0 piece.0)
-  drafts forms.Operand old new qs ps (o ∷ []) at h e =
-      let piece = one_is ps (operands 1) (at ∙ ap (λ (x : Option Piece). x ∷ []) (operand_is o e)) in
-      drafts_as forms.Operand old new qs ps (one (node (operands 1) piece.0)) piece.1 h (operand_drafts old new qs piece.0)
-  drafts forms.TwoOperands old new qs ps (o ∷ (u ∷ [])) at h e =
-      let both = and_parts (is_operand o) (is_operand u) e in
-      let piece = two_is ps (operands 1) (operands 1) (at ∙ (λ i. operand_is o both.0 i ∷ (operand_is u both.1 i ∷ []))) in
-      drafts_as forms.TwoOperands old new qs ps (two (node (operands 1) piece.0) (node (operands 1) piece.1)) piece.2 h (pair_drafts old new qs piece.0 piece.1)
-  drafts forms.Edge old new qs ps (o ∷ []) at h e =
-      let edge = edge_is o e in
-      let piece = one_is ps (successor edge.0) (at ∙ ap (λ (x : Option Piece). x ∷ []) edge.1) in
-      drafts_as forms.Edge old new qs ps (one (node (successor edge.0) piece.0)) piece.1 h (edge_drafts old new qs edge.0 piece.0)
-  drafts forms.TwoEdges old new qs ps (o ∷ (u ∷ (v ∷ []))) at h e =
-      let all = and_parts (is_operand o && is_bare_edge u) (is_bare_edge v) e in
-      let both = and_parts (is_operand o) (is_bare_edge u) all.0 in
-      let piece = three_is ps (operands 1) (successor 0) (successor 0)
-      (at ∙ (λ i. operand_is o both.0 i ∷ (bare_edge_is u both.1 i ∷ (bare_edge_is v all.1 i ∷ [])))) in
-      drafts_as forms.TwoEdges old new qs ps (three (node (operands 1) piece.0) (node (successor 0) piece.1) (node (successor 0) piece.2)) piece.3 h
-      (edges_drafts old new qs piece.0 piece.1 piece.2)
-  drafts forms.Nothing old new qs ps [] at h e =
-      drafts_as forms.Nothing old new qs ps no_tree (none_is ps at) h (nothing_drafts old new qs)
-  drafts form old new qs ps ls at h e = absurd (false≢true e)
+  drafts : (form : Form) (old new : List Int) (qs : List (Part D CalcOp Number Int)) (ps : Pieces) → ShowsParts says old qs ps → fits form (labels ps) ≡ true → Draft form new qs ps
+  drafts forms.Value old new qs ps h e =
+      let value = one_value (labels ps) e in
+      let piece = one_is ps (value_of_kind sorts.Attribute value.0) value.1 in
+      subst (λ (us : Pieces). Draft forms.Value new qs us) (sym piece.1) (value_drafts old new qs value.0 piece.0 (subst (λ (us : Pieces). ShowsParts says old qs us) piece.1 h))
+  drafts form old new qs ps h e = plain_draft form old new qs ps (plainly form (labels ps) (λ v. cc) e) h
 
   -- an operation is made of parts of its form
   pub operation_made : (kind : CalcOp) (old new : List Int) (qs : List (Part D CalcOp Number Int)) (attributes : List (List ℕ × Number)) (tys : List TypeHandle) →
@@ -188,7 +168,7 @@ module _ {D : Type 0} where
       made.MakesOperation says values (slice_get read_ops) kind old new qs attributes tys
   operation_made kind old new qs attributes tys e same typed n ps at h =
       let fit = ap (fits (form_of kind)) (sym (heard.parts_read attr_number says known old qs ps h)) ∙ e in
-      let draft = drafts (form_of kind) old new qs ps (labels ps) refl h fit in
+      let draft = drafts (form_of kind) old new qs ps h fit in
       let number = op_number n kind at in (
         ap (λ k. refused_by k ps) at ∙ ap refused_unless fit,
         record {
@@ -237,38 +217,26 @@ module _ {D : Type 0} where
 
 -- ---- what is printed
 
+-- the parts of a form are what an operation of it says
+parts_are : {D : Type 0} (form : Form) (value : Option Number) (count : ℕ) (xs : List Plain) → plain_of form count ≡ Some xs → parts_of {D = D} form value count ≡ all_parts xs
+parts_are forms.Region value count xs e = ap all_parts (same_Some (a_region ∷ []) xs (only_if (count == 0) (Some (a_region ∷ [])) xs e).1)
+parts_are forms.Value value count xs e = absurd (none-some xs e)
+parts_are forms.Operand value count xs e = ap all_parts (same_Some (some_operands 1 ∷ []) xs (only_if (count == 1) (Some (some_operands 1 ∷ [])) xs e).1)
+parts_are forms.TwoOperands value count xs e =
+    let vs = some_operands 1 ∷ (some_operands 1 ∷ []) in ap all_parts (same_Some vs xs (only_if (count == 2) (Some vs) xs e).1)
+parts_are forms.Edge value count xs e = ap all_parts (same_Some (an_edge count ∷ []) xs e)
+parts_are forms.TwoEdges value count xs e =
+    let vs = some_operands 1 ∷ (an_edge 0 ∷ (an_edge 0 ∷ [])) in ap all_parts (same_Some vs xs (only_if (count == 1) (Some vs) xs e).1)
+parts_are forms.Nothing value count xs e = ap all_parts (same_Some [] xs (only_if (count == 0) (Some []) xs e).1)
+
 module _ (D : Type 0) where
   -- an operation of a form has its parts
-  plainly_parted : (types : List Int) (form : Form) (value : Option Number) (count : ℕ) (us : Trees (Said Number)) (ps : Pieces) → said_plainly form count ≡ Some us →
+  parts_shown : (types : List Int) (form : Form) (value : Option Number) (count : ℕ) (us : Trees (Said Number)) (ps : Pieces) → said_plainly (plain_of form count) ≡ Some us →
       ShowsAll says types us ps → ShowsParts {D = D} says types (parts_of form value count) ps
-  plainly_parted types forms.Region value count us ps e h =
-      let vs = one (alone said_region) in
-      let same = same_Some vs us (only_if (count == 0) (Some vs) us e).1 in
-      let piece = one_is ps region (heard_as types vs us ps same h) in
-      subst (λ (qs : Pieces). ShowsParts {D = D} says types (parts.Region ∷ []) qs) (sym piece.1) (refl, tt)
-  plainly_parted types forms.Value value count us ps e h = absurd (none-some us e)
-  plainly_parted types forms.Operand value count us ps e h =
-      let vs = one (alone (said_operands 1)) in
-      let same = same_Some vs us (only_if (count == 1) (Some vs) us e).1 in
-      let piece = one_is ps (operands 1) (heard_as types vs us ps same h) in
-      subst (λ (qs : Pieces). ShowsParts {D = D} says types (parts.Operands 1 ∷ []) qs) (sym piece.1) (refl, tt)
-  plainly_parted types forms.TwoOperands value count us ps e h =
-      let vs = two (alone (said_operands 1)) (alone (said_operands 1)) in
-      let same = same_Some vs us (only_if (count == 2) (Some vs) us e).1 in
-      let piece = two_is ps (operands 1) (operands 1) (heard_as types vs us ps same h) in
-      subst (λ (qs : Pieces). ShowsParts {D = D} says types (parts.Operands 1 ∷ (parts.Operands 1 ∷ [])) qs) (sym piece.2) (refl, (refl, tt))
-  plainly_parted types forms.Edge value count us ps e h =
-      let vs = one (alone (said_successor count)) in
-      let piece = one_is ps (successor count) (heard_as types vs us ps (same_Some vs us e) h) in
-      subst (λ (qs : Pieces). ShowsParts {D = D} says types (parts.Successor count ∷ []) qs) (sym piece.1) (refl, tt)
-  plainly_parted types forms.TwoEdges value count us ps e h =
-      let vs = three (alone (said_operands 1)) (alone (said_successor 0)) (alone (said_successor 0)) in
-      let same = same_Some vs us (only_if (count == 1) (Some vs) us e).1 in
-      let piece = three_is ps (operands 1) (successor 0) (successor 0) (heard_as types vs us ps same h) in
-      subst (λ (qs : Pieces). ShowsParts {D = D} says types (parts.Operands 1 ∷ (parts.Successor 0 ∷ (parts.Successor 0 ∷ []))) qs) (sym piece.3) (refl, (refl, (refl, tt)))
-  plainly_parted types forms.Nothing value count us ps e h =
-      let same = same_Some no_tree us (only_if (count == 0) (Some no_tree) us e).1 in
-      subst (λ (qs : Pieces). ShowsParts {D = D} says types [] qs) (sym (none_is ps (heard_as types no_tree us ps same h))) tt
+  parts_shown types form value count us ps e h =
+      let plain = has_plain (plain_of form count) us e in
+      subst (λ qs. ShowsParts {D = D} says types qs ps) (sym (parts_are form value count plain.0 plain.1))
+      (plainly_parted says types D plain.0 ps (plain_heard types plain.0 us ps plain.2 h))
 
   pub operation_parted : (types : List Int) (form : Form) (entries : List (List ℕ × Number)) (count : ℕ) (us : Trees (Said Number)) (ps : Pieces) → said_in form entries count ≡ Some us →
       ShowsAll says types us ps → ShowsParts {D = D} says types (parts_of form (attribute_at entries value_key) count) ps
@@ -280,15 +248,5 @@ module _ (D : Type 0) where
       let shown = subst (λ (qs : Pieces). ShowsAll says types vs qs) piece.1 (subst (λ (ws : Trees (Said Number)). ShowsAll says types ws ps) (sym value.2) h) in
       subst (λ o. ShowsParts {D = D} says types (parts_of forms.Value o count) ps) (sym value.1)
       (subst (λ (qs : Pieces). ShowsParts {D = D} says types (parts.Attribute value.0 ∷ []) qs) (sym piece.1) ((value.0, refl, shown.0), tt))
-  operation_parted types forms.Region entries count us ps e h =
-      plainly_parted types forms.Region (attribute_at entries value_key) count us ps (only_if (length entries == 0) (said_plainly forms.Region count) us e).1 h
-  operation_parted types forms.Operand entries count us ps e h =
-      plainly_parted types forms.Operand (attribute_at entries value_key) count us ps (only_if (length entries == 0) (said_plainly forms.Operand count) us e).1 h
-  operation_parted types forms.TwoOperands entries count us ps e h =
-      plainly_parted types forms.TwoOperands (attribute_at entries value_key) count us ps (only_if (length entries == 0) (said_plainly forms.TwoOperands count) us e).1 h
-  operation_parted types forms.Edge entries count us ps e h =
-      plainly_parted types forms.Edge (attribute_at entries value_key) count us ps (only_if (length entries == 0) (said_plainly forms.Edge count) us e).1 h
-  operation_parted types forms.TwoEdges entries count us ps e h =
-      plainly_parted types forms.TwoEdges (attribute_at entries value_key) count us ps (only_if (length entries == 0) (said_plainly forms.TwoEdges count) us e).1 h
-  operation_parted types forms.Nothing entries count us ps e h =
-      plainly_parted types forms.Nothing (attribute_at entries value_key) count us ps (only_if (length entries == 0) (said_plainly forms.Nothing count) us e).1 h
+  operation_parted types form entries count us ps e h =
+      parts_shown types form (attribute_at entries value_key) count us ps (only_if (length entries == 0) (said_plainly (plain_of form count)) us e).1 h

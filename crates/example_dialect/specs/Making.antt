@@ -22,20 +22,6 @@ module _ {D : Type 0} where
   abbrev pub piece_of : Part D CalcOp Number Int → Option Piece
   piece_of p = heard.piece_of attr_number p
 
-  -- the attribute that a part is
-  abbrev pub value_part : Part D CalcOp Number Int → Option Number
-  value_part (parts.Operands n) = None
-  value_part (parts.Successor n) = None
-  value_part (parts.Attribute a) = Some a
-  value_part (parts.Type t) = None
-  value_part parts.Region = None
-  value_part (parts.Leaf v) = None
-  value_part other = None
-
-  abbrev pub value_in : List (Part D CalcOp Number Int) → Option Number
-  value_in (p ∷ []) = value_part p
-  value_in ps = None
-
   -- the parts of an operation of a form with this attribute, if it has one, and so many operands
   abbrev pub parts_of : Form → Option Number → ℕ → List (Part D CalcOp Number Int)
   parts_of forms.Region value n = parts.Region ∷ []

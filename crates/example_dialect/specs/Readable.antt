@@ -6,10 +6,10 @@ use Rattle.std.proofs.lemmas.Option.{none-some, same_Some, some_pair_parts, slic
 use Rattle.ir_base.specs.declared.types.TypeHandle.{TypeHandle}
 use Rattle.ir_names.specs.Dictionary.{attribute_at}
 use Rattle.ir_names.specs.Tree.{Trees, no_tree}
-use Rattle.ir_print.specs.Pieces.{Piece, value_of_kind, operands, successor, region, leaf, unsigned, Pieces}
+use Rattle.ir_print.specs.Pieces.{Piece, value_of_kind, leaf, unsigned, Pieces}
 use Rattle.ir_print.specs.declared.format.ValueSort.TheVariants as sorts
 use Rattle.ir_print.specs.Shapes.{parts_in, AreSaidAt, IsTypeSaid, IsAttributeSaid, SaysTypes, SaysAttributes, SaysOperations}
-use Rattle.ir_print.specs.Shown.{Said, said_attribute, said_operands, said_successor, said_region, said_leaf, alone, ShowsAll, operands_said}
+use Rattle.ir_print.specs.Shown.{Said, said_attribute, said_leaf, alone, ShowsAll, operands_said}
 use Rattle.example_dialect.specs.declared.dialect.Int.{Int}
 use Rattle.example_dialect.specs.declared.dialect.Number.{Number}
 use Rattle.example_dialect.specs.declared.dialect.CalcOp.{CalcOp}
@@ -17,10 +17,11 @@ use Rattle.example_dialect.specs.declared.dialect.CalcOp.TheVariants as ops
 use Rattle.example_dialect.specs.declared.operations.Form.{Form}
 use Rattle.example_dialect.specs.declared.operations.Form.TheVariants as forms
 use Rattle.example_dialect.specs.Forms.{form_of, number_of, read_ops, read_single, steps_in, formats, op_kind, type_form, attr_form}
-use Rattle.example_dialect.specs.Says.{says, values, attr_number, numbered, said_in, said_plainly, said_of_value, value_key, said_of_attribute, is_number, number_in, fits, refused_unless, refused_attribute, refused_operation, refused_by, refused_type, result_types, types_by}
+use Rattle.example_dialect.specs.Says.{says, values, attr_number, numbered, said_in, plain_of, said_plainly, said_of_value, value_key, said_of_attribute, is_number, number_in, fits, refused_unless, refused_attribute, refused_operation, refused_by, refused_type, result_types, types_by}
 use Rattle.text_laws.specs.Heard as heard
 use Rattle.text_laws.specs.Heard.{SaysNumber}
-use Rattle.text_laws.specs.Labels.{one, two, three, only_if, labels, none_is, one_is, two_is, three_is, whole_number}
+use Rattle.text_laws.specs.Plain.{Plain, some_operands, an_edge, a_region, all_said, pieces, total, plainly_heard, plainly_counted}
+use Rattle.text_laws.specs.Labels.{one, only_if, labels, none_is, one_is, whole_number}
 
 -- the kinds with numbers have the formats with these numbers
 pub operation_formats : (n : ℕ) → slice_get formats.operations n ≡ option_map op_kind (slice_get read_ops n)
@@ -92,67 +93,52 @@ pub has_value : (o : Option Number) (us : Trees (Said Number)) → said_of_value
 has_value (Some a) us e = (a, refl, same_Some (one (alone (said_attribute a))) us e)
 has_value None us e = absurd (none-some us e)
 
-plainly_said : (form : Form) (count : ℕ) (us : Trees (Said Number)) → said_plainly form count ≡ Some us →
-    (types : List Int) (ps : Pieces) → ShowsAll says types us ps → FormSaid form count us ps
-plainly_said forms.Region count us e types ps h =
-    let vs = one (alone said_region) in
-    let said = only_if (count == 0) (Some vs) us e in
-    let same = same_Some vs us said.1 in
-    let here = heard_as types vs us ps same h in
-    record {
-      shaped = subst (AreSaidAt (parts_in (steps_in forms.Region))) same (refl, tt);
-      read = ap (fits forms.Region) here;
-      operands = ap operands_said (one_is ps region here).1 ∙ sym (eqb-true count 0 said.0);
-    }
-plainly_said forms.Value count us e types ps h = absurd (none-some us e)
-plainly_said forms.Operand count us e types ps h =
-    let vs = one (alone (said_operands 1)) in
-    let said = only_if (count == 1) (Some vs) us e in
-    let same = same_Some vs us said.1 in
-    let here = heard_as types vs us ps same h in
-    record {
-      shaped = subst (AreSaidAt (parts_in (steps_in forms.Operand))) same (refl, tt);
-      read = ap (fits forms.Operand) here;
-      operands = ap operands_said (one_is ps (operands 1) here).1 ∙ sym (eqb-true count 1 said.0);
-    }
-plainly_said forms.TwoOperands count us e types ps h =
-    let vs = two (alone (said_operands 1)) (alone (said_operands 1)) in
-    let said = only_if (count == 2) (Some vs) us e in
-    let same = same_Some vs us said.1 in
-    let here = heard_as types vs us ps same h in
-    record {
-      shaped = subst (AreSaidAt (parts_in (steps_in forms.TwoOperands))) same (refl, (refl, tt));
-      read = ap (fits forms.TwoOperands) here;
-      operands = ap operands_said (two_is ps (operands 1) (operands 1) here).2 ∙ sym (eqb-true count 2 said.0);
-    }
-plainly_said forms.Edge count us e types ps h =
-    let vs = one (alone (said_successor count)) in
-    let same = same_Some vs us e in
-    let here = heard_as types vs us ps same h in
+-- what an operation of a form says that has no attribute
+record IsPlainly (form : Form) (count : ℕ) (xs : List Plain) : Type 0 where
+  pub shaped : AreSaidAt {A = Number} (parts_in (steps_in form)) (all_said xs)
+  pub read : fits form (pieces xs) ≡ true
+  pub operands : total xs ≡ count
+
+plain_is : (form : Form) (count : ℕ) (xs : List Plain) → plain_of form count ≡ Some xs → IsPlainly form count xs
+plain_is forms.Region count xs e =
+    let vs = a_region ∷ [] in let said = only_if (count == 0) (Some vs) xs e in
+    subst (IsPlainly forms.Region count) (same_Some vs xs said.1) (record { shaped = (refl, tt); read = refl; operands = sym (eqb-true count 0 said.0) })
+plain_is forms.Value count xs e = absurd (none-some xs e)
+plain_is forms.Operand count xs e =
+    let vs = some_operands 1 ∷ [] in let said = only_if (count == 1) (Some vs) xs e in
+    subst (IsPlainly forms.Operand count) (same_Some vs xs said.1) (record { shaped = (refl, tt); read = refl; operands = sym (eqb-true count 1 said.0) })
+plain_is forms.TwoOperands count xs e =
+    let vs = some_operands 1 ∷ (some_operands 1 ∷ []) in let said = only_if (count == 2) (Some vs) xs e in
+    subst (IsPlainly forms.TwoOperands count) (same_Some vs xs said.1) (record { shaped = (refl, (refl, tt)); read = refl; operands = sym (eqb-true count 2 said.0) })
+plain_is forms.Edge count xs e =
     let plain : count + 0 ≡ count = omega arith in
+    subst (IsPlainly forms.Edge count) (same_Some (an_edge count ∷ []) xs e) (record { shaped = (refl, tt); read = refl; operands = plain })
+plain_is forms.TwoEdges count xs e =
+    let vs = some_operands 1 ∷ (an_edge 0 ∷ (an_edge 0 ∷ [])) in let said = only_if (count == 1) (Some vs) xs e in
+    subst (IsPlainly forms.TwoEdges count) (same_Some vs xs said.1) (record { shaped = (refl, (refl, (refl, tt))); read = refl; operands = sym (eqb-true count 1 said.0) })
+plain_is forms.Nothing count xs e =
+    let said = only_if (count == 0) (Some []) xs e in
+    subst (IsPlainly forms.Nothing count) (same_Some [] xs said.1) (record { shaped = tt; read = refl; operands = sym (eqb-true count 0 said.0) })
+
+-- what is said plainly
+pub has_plain : (o : Option (List Plain)) (us : Trees (Said Number)) → said_plainly o ≡ Some us → (xs : List Plain) × (o ≡ Some xs) × (all_said xs ≡ us)
+has_plain (Some xs) us e = (xs, refl, same_Some (all_said xs) us e)
+has_plain None us e = absurd (none-some us e)
+
+-- the pieces that show it have these labels
+pub plain_heard : (types : List Int) (xs : List Plain) (us : Trees (Said Number)) (ps : Pieces) → all_said xs ≡ us → ShowsAll says types us ps → labels ps ≡ pieces xs
+plain_heard types xs us ps e h = heard_as types (all_said xs) us ps e h ∙ plainly_heard attr_number xs
+
+plainly_said : (form : Form) (count : ℕ) (us : Trees (Said Number)) → said_plainly (plain_of form count) ≡ Some us →
+    (types : List Int) (ps : Pieces) → ShowsAll says types us ps → FormSaid form count us ps
+plainly_said form count us e types ps h =
+    let plain = has_plain (plain_of form count) us e in
+    let known = plain_is form count plain.0 plain.1 in
+    let here = plain_heard types plain.0 us ps plain.2 h in
     record {
-      shaped = subst (AreSaidAt (parts_in (steps_in forms.Edge))) same (refl, tt);
-      read = ap (fits forms.Edge) here;
-      operands = ap operands_said (one_is ps (successor count) here).1 ∙ plain;
-    }
-plainly_said forms.TwoEdges count us e types ps h =
-    let vs = three (alone (said_operands 1)) (alone (said_successor 0)) (alone (said_successor 0)) in
-    let said = only_if (count == 1) (Some vs) us e in
-    let same = same_Some vs us said.1 in
-    let here = heard_as types vs us ps same h in
-    record {
-      shaped = subst (AreSaidAt (parts_in (steps_in forms.TwoEdges))) same (refl, (refl, (refl, tt)));
-      read = ap (fits forms.TwoEdges) here;
-      operands = ap operands_said (three_is ps (operands 1) (successor 0) (successor 0) here).3 ∙ sym (eqb-true count 1 said.0);
-    }
-plainly_said forms.Nothing count us e types ps h =
-    let said = only_if (count == 0) (Some no_tree) us e in
-    let same = same_Some no_tree us said.1 in
-    let here = heard_as types no_tree us ps same h in
-    record {
-      shaped = subst (AreSaidAt (parts_in (steps_in forms.Nothing))) same tt;
-      read = ap (fits forms.Nothing) here;
-      operands = ap operands_said (none_is ps here) ∙ sym (eqb-true count 0 said.0);
+      shaped = subst (AreSaidAt (parts_in (steps_in form))) plain.2 known.shaped;
+      read = ap (fits form) here ∙ known.read;
+      operands = plainly_counted plain.0 ps here ∙ known.operands;
     }
 
 form_said : (form : Form) (entries : List (List ℕ × Number)) (count : ℕ) (us : Trees (Said Number)) → said_in form entries count ≡ Some us →
@@ -167,18 +153,8 @@ form_said forms.Value entries count us e types ps h =
       operands = ap operands_said (one_is ps (value_of_kind sorts.Attribute 0) here).1
           ∙ sym (eqb-true count 0 (and_parts (length entries == 1) (count == 0) said.0).1);
     }
-form_said forms.Region entries count us e types ps h =
-    plainly_said forms.Region count us (only_if (length entries == 0) (said_plainly forms.Region count) us e).1 types ps h
-form_said forms.Operand entries count us e types ps h =
-    plainly_said forms.Operand count us (only_if (length entries == 0) (said_plainly forms.Operand count) us e).1 types ps h
-form_said forms.TwoOperands entries count us e types ps h =
-    plainly_said forms.TwoOperands count us (only_if (length entries == 0) (said_plainly forms.TwoOperands count) us e).1 types ps h
-form_said forms.Edge entries count us e types ps h =
-    plainly_said forms.Edge count us (only_if (length entries == 0) (said_plainly forms.Edge count) us e).1 types ps h
-form_said forms.TwoEdges entries count us e types ps h =
-    plainly_said forms.TwoEdges count us (only_if (length entries == 0) (said_plainly forms.TwoEdges count) us e).1 types ps h
-form_said forms.Nothing entries count us e types ps h =
-    plainly_said forms.Nothing count us (only_if (length entries == 0) (said_plainly forms.Nothing count) us e).1 types ps h
+form_said form entries count us e types ps h =
+    plainly_said form count us (only_if (length entries == 0) (said_plainly (plain_of form count)) us e).1 types ps h
 
 -- what is said with a number
 pub is_numbered : (k : ℕ) (said : Option (Trees (Said Number))) (n : ℕ) (us : Trees (Said Number)) → numbered k said ≡ Some (n, us) → (k ≡ n) × (said ≡ Some us)

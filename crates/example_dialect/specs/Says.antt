@@ -4,7 +4,7 @@ use Rattle.ir_names.specs.Dictionary.{attribute_at}
 use Rattle.ir_names.specs.Tree.{Trees, node, no_tree}
 use Rattle.ir_print.specs.Pieces.{Piece, value_of_kind, operands, successor, region, leaf, unsigned, ValueTree, Pieces, Values}
 use Rattle.ir_print.specs.declared.format.ValueSort.TheVariants as sorts
-use Rattle.ir_print.specs.Shown.{Said, said_attribute, said_operands, said_successor, said_region, said_leaf, alone, Saying}
+use Rattle.ir_print.specs.Shown.{Said, said_attribute, said_leaf, alone, Saying}
 use Rattle.example_dialect.specs.declared.dialect.Int.{Int}
 use Rattle.example_dialect.specs.declared.dialect.Number.{Number}
 use Rattle.example_dialect.specs.declared.dialect.CalcOp.{CalcOp}
@@ -12,7 +12,8 @@ use Rattle.example_dialect.specs.declared.dialect.CalcOp.TheVariants as ops
 use Rattle.example_dialect.specs.declared.operations.Form.{Form}
 use Rattle.example_dialect.specs.declared.operations.Form.TheVariants as forms
 use Rattle.example_dialect.specs.Forms.{form_of, number_of, read_ops}
-use Rattle.text_laws.specs.Labels.{one, two, three, only, labels}
+use Rattle.text_laws.specs.Labels.{one, only, labels}
+use Rattle.text_laws.specs.Plain.{Plain, some_operands, an_edge, a_region, all_said}
 
 -- ---- what is in a context
 
@@ -37,20 +38,24 @@ abbrev pub said_of_value : Option Number → Option (Trees (Said Number))
 said_of_value (Some a) = Some (one (alone (said_attribute a)))
 said_of_value None = None
 
--- what an operation of a form says that has so many operands, if it is none with an attribute
-abbrev pub said_plainly : Form → (operands : ℕ) → Option (Trees (Said Number))
-said_plainly forms.Region n = only (n == 0) (Some (one (alone said_region)))
-said_plainly forms.Value n = None
-said_plainly forms.Operand n = only (n == 1) (Some (one (alone (said_operands 1))))
-said_plainly forms.TwoOperands n = only (n == 2) (Some (two (alone (said_operands 1)) (alone (said_operands 1))))
-said_plainly forms.Edge n = Some (one (alone (said_successor n)))
-said_plainly forms.TwoEdges n = only (n == 1) (Some (three (alone (said_operands 1)) (alone (said_successor 0)) (alone (said_successor 0))))
-said_plainly forms.Nothing n = only (n == 0) (Some no_tree)
+-- what an operation of a form with so many operands says, if it is none with an attribute
+abbrev pub plain_of : Form → (operands : ℕ) → Option (List Plain)
+plain_of forms.Region n = only (n == 0) (Some (a_region ∷ []))
+plain_of forms.Value n = None
+plain_of forms.Operand n = only (n == 1) (Some (some_operands 1 ∷ []))
+plain_of forms.TwoOperands n = only (n == 2) (Some (some_operands 1 ∷ (some_operands 1 ∷ [])))
+plain_of forms.Edge n = Some (an_edge n ∷ [])
+plain_of forms.TwoEdges n = only (n == 1) (Some (some_operands 1 ∷ (an_edge 0 ∷ (an_edge 0 ∷ []))))
+plain_of forms.Nothing n = only (n == 0) (Some [])
+
+abbrev pub said_plainly : Option (List Plain) → Option (Trees (Said Number))
+said_plainly (Some xs) = Some (all_said xs)
+said_plainly None = None
 
 -- An operation of a form says its own attribute and its operands, if it has no others.
 abbrev pub said_in : Form → (entries : List (List ℕ × Number)) → (operands : ℕ) → Option (Trees (Said Number))
 said_in forms.Value entries n = only (length entries == 1 && n == 0) (said_of_value (attribute_at entries value_key))
-said_in form entries n = only (length entries == 0) (said_plainly form n)
+said_in form entries n = only (length entries == 0) (said_plainly (plain_of form n))
 
 -- the same with a number
 abbrev pub numbered : ℕ → Option (Trees (Said Number)) → Option (ℕ × Trees (Said Number))

@@ -9,8 +9,9 @@ ghost use Rattle.text_dialect.specs.Making as made;
 ghost use Rattle.text_dialect.specs.Seen.{SeenOperation, seen, types_of};
 ghost use Rattle.text_dialect.specs.declared.dialect.MakeFault.TheVariants.{Refused};
 ghost use Rattle.example_dialect.specs.Forms.{form_of, read_ops};
-ghost use Rattle.example_dialect.specs.Making.{entries_of, parts_of, piece_of, value_in};
+ghost use Rattle.example_dialect.specs.Making.{entries_of, parts_of, piece_of};
 ghost use Rattle.example_dialect.specs.Says.{fits, is_region, is_value, is_operand, is_edge, is_bare_edge, says, types_in, values};
+ghost use Rattle.text_laws.specs.Plain.{value_in};
 
 use crate::dialect::{Calc, CalcOp, Int, Number};
 use ir_context::{Context, OperandCalls, OperationCalls};

@@ -65,7 +65,7 @@ tail_of (p ∷ ps) = ps
 labelled : (t : ValueTree) (p : Piece) → whole (label_of t) ≡ Some p → (ts : Pieces) × (t ≡ node p ts)
 labelled (node q ts) p e = (ts, ap (λ (r : Piece). node r ts) (same_Some q p (only_if (is_whole q) (Some q) p e).1))
 
-first_is : (ps : Pieces) (p : Piece) (rest : List (Option Piece)) → labels ps ≡ Some p ∷ rest →
+pub first_is : (ps : Pieces) (p : Piece) (rest : List (Option Piece)) → labels ps ≡ Some p ∷ rest →
     (ts : Pieces) × (us : Pieces) × (ps ≡ a_tree (node p ts) us) × (labels us ≡ rest)
 first_is no_tree p rest e = absurd (cc)
 first_is (a_tree t us) p rest e =

@@ -1,4 +1,5 @@
 pub mod Labels
 pub mod Heard
+pub mod Plain
 pub mod Views
 pub mod Laws
