@@ -1,0 +1,3 @@
+pub mod EditLemmas
+pub mod SizeLemmas
+pub mod PlaceLemmas
