@@ -1,3 +1,2 @@
 pub mod Picked
-pub mod Constants
-pub mod Wanted
+pub mod OneResult

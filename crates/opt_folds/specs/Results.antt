@@ -2,18 +2,15 @@
 use Rattle.std.specs.Prelude.{◌≡◌, [], ◌∷◌, List, Option, Some, IsSome}
 use Rattle.ir_base.specs.declared.types.TypeHandle.{TypeHandle}
 use Rattle.ir_program.specs.Lent.{payload_at}
-use Rattle.ir_program.specs.ListEdits.{PutsOperationBefore}
-use Rattle.ir_program.specs.Made.{BuildsOperation}
 use Rattle.ir_program.specs.Program.{Program, results_at}
-use Rattle.ir_program.specs.UseEdits.{ReplacesValue}
 use Rattle.ir_program.specs.Uses.{IsUsed}
-use Rattle.ir_program.specs.declared.handles.DefiningEntity.TheVariants.{Op as ByOp}
 use Rattle.ir_program.specs.declared.handles.Operation.{Operation}
 use Rattle.ir_program.specs.declared.handles.Ptr.{Ptr}
 use Rattle.ir_program.specs.declared.handles.Value.{Value}
 use Rattle.ir_trees.specs.Stands.{in_program}
 use Rattle.opt_dialect.specs.declared.status.IRStatus.{IRStatus}
 use Rattle.opt_dialect.specs.declared.status.IRStatus.TheVariants.{Unchanged, Changed}
+use Rattle.opt_result_folds.specs.Results.{PutsConstant}
 use Rattle.opt_trees.specs.Dialect.{Dialect}
 
 module _ {O B A : Type 0} (d : Dialect (in_program O B) A) where
@@ -28,24 +25,10 @@ module _ {O B A : Type 0} (d : Dialect (in_program O B) A) where
     pub folds : d.fold payload (ty ∷ []) known ≡ Some a ∷ []
     pub made_by : IsSome (d.constant a)
 
-  -- the operation of a constant is made, with its one result and nothing else, and put right before this operation; then
-  -- each use of the value is a use of that result
-  pub record PutsConstant (old new : Program O B) (op : Ptr Operation) (value : Value) (a : A) : Type 0 where
-    pub content : O
-    pub makes : d.constant a ≡ Some content
-    pub constant : Ptr Operation
-    pub result : Value
-    pub own : result.definer ≡ ByOp constant
-    pub built : Program O B
-    pub put : Program O B
-    pub builds : BuildsOperation old built constant content (d.constant_type a ∷ []) [] [] 0
-    pub before : PutsOperationBefore built put op constant
-    pub replaces : ReplacesValue put new value result
-
   -- what becomes of an operation with one result by what is known of its operands, and whether anything was changed
   pub data FoldsResult (old new : Program O B) (known : List (Option A)) (op : Ptr Operation) : IRStatus → Type 0 where
     -- its result is used and folds: the constant comes right before it, in place of the result
-    folded : (a : A) (wanted : IsWanted old known op a) → PutsConstant old new op wanted.value a
+    folded : (a : A) (wanted : IsWanted old known op a) → PutsConstant d old new op wanted.value a
         → FoldsResult old new known op Changed
     -- it doesn't, and nothing is changed
     kept : ((a : A) → IsWanted old known op a → ⊥) → new ≡ old → FoldsResult old new known op Unchanged

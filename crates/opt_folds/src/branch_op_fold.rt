@@ -14,6 +14,7 @@ use ir_opts::Rewriter;
 use ir_program::{BasicBlock, Operation, Program, Ptr};
 use opt_decide::{Decision, decide_branch};
 use opt_dialect::{IRStatus, Meanings, OptDialect, OptError};
+pub use opt_interfaces::branch_op_fold::{fold_edge, verify};
 use std::alloc::{AllocError, Global};
 
 /// The feasible successors of an operation, in their order.

@@ -4,3 +4,5 @@
 
 pub mod branch_op_fold;
 pub mod const_fold;
+
+pub use opt_interfaces::{OptVerifiers, block_arg_removal, side_effects};

@@ -1,4 +1,4 @@
-use Rattle.std.proofs.Common.{◌≡◌, refl, sym, ap, ◌∙◌, subst}
+use Rattle.std.proofs.Common.{refl, sym, ap, ◌∙◌}
 use Rattle.ir_program.specs.Lent.{payload_at}
 use Rattle.opt_folds.specs.Branches.{edge_by, folded, kept}
 use Rattle.opt_folds.proofs.Picked.{has_plain}

@@ -1,46 +1,7 @@
-use Rattle.std.proofs.Common.{◌≡◌, ℕ, Some, refl, sym, ap, ◌∙◌, subst}
-use Rattle.std.specs.Prelude.{MatchOption}
-use Rattle.ir_context.specs.Known.{HasKnownTypes}
-use Rattle.ir_program.specs.Definers.{values_at}
-use Rattle.ir_program.specs.Program.{type_at, type_in, value_in}
-use Rattle.ir_program.specs.declared.handles.DefiningEntity.{DefiningEntity}
-use Rattle.ir_program.specs.declared.handles.Value.{Value}
-use Rattle.opt_folds.specs.Results.{IsWanted, folded, kept}
-use Rattle.opt_folds.proofs.Wanted.{NoneWanted, found, known_type, none_found}
+use Rattle.opt_folds.proofs.OneResult.{folds_one}
 use Rattle.opt_folds.proofs.const_fold.fold_with_materialization.Goals as goal
-
-pub returns-in_default-clause-folded : goal.returns-in_default-clause-folded
-returns-in_default-clause-folded g c =
-    let d = g.D.Meanings.meaning in
-    let known = c.args.known.now in
-    let op = c.args.op in
-    let match = subst (λ p. MatchOption c.in_ok-constant.field-0 (NoneWanted d p known op) (IsWanted d p known op)) c.program-2.ensures c.in_ok-constant.ensures in
-    kept (none_found d c.args.ctx.now.program known op c.in_ok-constant.field-0 match c.in_default.is) refl
-
-pub put_constant-requires-clause-maker : goal.put_constant-requires-clause-maker
-put_constant-requires-clause-maker g c =
-    let d = g.D.Meanings.meaning in
-    let known = c.args.known.now in
-    let op = c.args.op in
-    let match = subst (λ p. MatchOption c.in_ok-constant.field-0 (NoneWanted d p known op) (IsWanted d p known op)) c.program-2.ensures c.in_ok-constant.ensures in
-    (found d c.args.ctx.now.program known op c.in_ok-constant.field-0 match c.in-Some.constant c.in-Some.is).made_by
-
-pub put_constant-requires-clause-known : goal.put_constant-requires-clause-known
-put_constant-requires-clause-known g c =
-    let d = g.D.Meanings.meaning in
-    let known = c.args.known.now in
-    let op = c.args.op in
-    let old = c.args.ctx.now.program in
-    let match = subst (λ p. MatchOption c.in_ok-constant.field-0 (NoneWanted d p known op) (IsWanted d p known op)) c.program-2.ensures c.in_ok-constant.ensures in
-    let wanted = found d old known op c.in_ok-constant.field-0 match c.in-Some.constant c.in-Some.is in
-    known_type d old known op g.met.D.OptDialect.lawful c.in-Some.constant wanted (g.T.TypeTable.type_count c.args.ctx.now.types) c.know_types.ensures
-    (subst (λ p. (e : DefiningEntity) (k : ℕ) (v : Value) → value_in (values_at p e) k ≡ Some v → type_at p v ≡ type_in (values_at p e) k) c.program.ensures c.know_values.ensures.typed)
 
 pub returns-clause-folded : goal.returns-clause-folded
 returns-clause-folded g c =
-    let d = g.D.Meanings.meaning in
-    let known = c.args.known.now in
-    let op = c.args.op in
-    let match = subst (λ p. MatchOption c.in_ok-constant.field-0 (NoneWanted d p known op) (IsWanted d p known op)) c.program-2.ensures c.in_ok-constant.ensures in
-    let wanted = found d c.args.ctx.now.program known op c.in_ok-constant.field-0 match c.in-Some.constant c.in-Some.is in
-    folded c.in-Some.constant wanted (c.in_ok-put_constant.ensures.put wanted.value (ap (λ ts. value_in ts 0) wanted.result))
+    folds_one g.D.Meanings.meaning g.met.D.OptDialect.lawful c.args.known.now c.args.op c.args.ctx.now.program c.fold_result.new.ctx.program
+    c.requires.one c.in_ok-status.status c.in_ok-status.ensures.folded

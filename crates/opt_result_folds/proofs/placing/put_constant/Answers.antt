@@ -1,13 +1,13 @@
 -- The constant is made, put before the operation, and taken in place of its result.
-use Rattle.std.proofs.Common.{◌≡◌, ◌<◌, Some, IsSome, length, refl, sym, ap, ◌∙◌, subst, arith}
+use Rattle.std.proofs.Common.{◌≡◌, ◌<◌, Some, length, refl, sym, ◌∙◌, subst, arith}
 use Rattle.std.proofs.lemmas.Option.{same_Some}
 use Rattle.ir_program.specs.Definers.{values_at}
-use Rattle.ir_program.specs.Program.{results_at, type_in, value_in, IsLiveValue}
+use Rattle.ir_program.specs.Program.{value_in, IsLiveValue}
 use Rattle.ir_program.specs.declared.handles.DefiningEntity.TheVariants.{Op as ByOp}
 use Rattle.opt_decide.proofs.BareOperations.{no_other_inside}
-use Rattle.opt_folds.specs.Results.{PutsConstant}
-use Rattle.opt_folds.proofs.Constants.{built_bare, constant_put, constant_results, constant_there, one_result, other, result_there, still_linked, value_there}
-use Rattle.opt_folds.proofs.const_fold.put_constant.Goals as goal
+use Rattle.opt_result_folds.specs.Results.{PutsConstant}
+use Rattle.opt_result_folds.proofs.Constants.{built_bare, constant_put, constant_results, constant_there, live_at, other, result_there, still_linked, value_there}
+use Rattle.opt_result_folds.proofs.placing.put_constant.Goals as goal
 
 pub insert_before-requires-clause-mark : goal.insert_before-requires-clause-mark
 insert_before-requires-clause-mark g c =
@@ -40,9 +40,8 @@ replace_all_uses_with-requires-clause-value g c =
     let b = c.in_ok-made.ensures.built in
     let old = c.args.ctx.now.program in
     let v = c.get_result-value.result in
-    let t = one_result (results_at old c.args.op) c.requires.one in
-    let live : IsLiveValue old v = subst IsSome (sym (c.get_result-value.ensures.typed ∙ ap (λ ts. type_in ts 0) t.1)) refl in
-    let by = subst (λ p. value_in (values_at p (ByOp c.args.op)) 0 ≡ Some v → v.definer ≡ ByOp c.args.op) c.program.ensures (c.know_values.ensures.definer (ByOp c.args.op) 0 v) c.get_result-value.ensures.value in
+    let live : IsLiveValue old v = live_at old c.args.op c.args.index v c.get_result-value.ensures.value c.get_result-value.ensures.typed in
+    let by = subst (λ p. value_in (values_at p (ByOp c.args.op)) c.args.index ≡ Some v → v.definer ≡ ByOp c.args.op) c.program.ensures (c.know_values.ensures.definer (ByOp c.args.op) c.args.index v) c.get_result-value.ensures.value in
     value_there old c.new_constant.new.ctx.program c.args.op c.in_ok-made.made b.0 _ b.2 c.requires.linked
     c.insert_before.new.ctx.program c.insert_before.new.ctx.program c.insert_before.ensures.edited v by live c.insert_before.ensures.values
 

@@ -1,7 +1,7 @@
 -- The operation carries what the constant makes, and its result has the constant's type.
 use Rattle.std.proofs.Common.{[], ◌∷◌, sym, ◌∙◌, subst}
 use Rattle.ir_program.specs.Made.{BuildsOperation}
-use Rattle.opt_folds.proofs.const_fold.new_constant.Goals as goal
+use Rattle.opt_result_folds.proofs.placing.new_constant.Goals as goal
 
 pub returns-clause-built : goal.returns-clause-built
 returns-clause-built g c = (

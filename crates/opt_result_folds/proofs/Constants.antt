@@ -1,32 +1,33 @@
--- One constant in place of the result of an operation.
-use Rattle.std.proofs.Common.{◌≡◌, ◌≢◌, ℕ, List, [], ◌∷◌, length, Option, Some, None, IsSome, is_some, option_map, unwrap_or, slice_get, refl, sym, ap, ◌∙◌, subst, arith}
+-- One constant in place of a result of an operation.
+use Rattle.std.proofs.Common.{◌≡◌, ◌≢◌, ℕ, List, [], ◌∷◌, length, Option, Some, None, IsSome, option_map, unwrap_or, slice_get, refl, sym, ap, ◌∙◌, subst, arith}
 use Rattle.ir_base.specs.declared.types.TypeHandle.{TypeHandle}
 use Rattle.ir_program.specs.Adds.{numbered_values}
-use Rattle.ir_program.specs.Definers.{values_at}
 use Rattle.ir_program.specs.Edits.{KeepsValues}
 use Rattle.ir_program.specs.ListEdits.{PutsOperationBefore}
-use Rattle.ir_program.specs.Lists.{operations_in, regions_in, StandsInBlock, IsLinkedOperation}
+use Rattle.ir_program.specs.Lists.{regions_in, IsLinkedOperation}
 use Rattle.ir_program.specs.Made.{BuildsOperation}
 use Rattle.ir_program.specs.Program.{Program, TypedValue, OperationView, BlockView, operation_at, results_at, type_at, type_in, value_in, IsLiveValue}
 use Rattle.ir_program.specs.UseEdits.{ReplacesValue}
-use Rattle.ir_program.specs.declared.handles.DefiningEntity.{DefiningEntity}
 use Rattle.ir_program.specs.declared.handles.DefiningEntity.TheVariants.{Op as ByOp}
 use Rattle.ir_program.specs.declared.handles.Operation.{Operation}
 use Rattle.ir_program.specs.declared.handles.Ptr.{Ptr}
 use Rattle.ir_program.specs.declared.handles.Value.{Value}
 use Rattle.ir_trees.specs.Stands.{in_program}
 use Rattle.opt_trees.specs.Dialect.{Dialect}
-use Rattle.opt_folds.specs.Results.{PutsConstant}
+use Rattle.opt_result_folds.specs.Results.{PutsConstant}
 
 nothing : {X : Type 0} (o : Option X) → o ≡ None → IsSome o → ⊥
 nothing None e h = cc
 nothing (Some x) e h = cc
 
--- the one result of an operation
-pub one_result : (ts : List TypedValue) → length ts ≡ 1 → (t : TypedValue) × (ts ≡ t ∷ [])
-one_result [] e = absurd (omega arith)
-one_result (t ∷ []) e = (t, refl)
-one_result (t ∷ (u ∷ ts)) e = absurd (omega arith)
+-- the result at an index is a value that is there
+pub live_at : {O B : Type 0} (c : Program O B) (op : Ptr Operation) (i : ℕ) (v : Value) → value_in (results_at c op) i ≡ Some v
+    → type_at c v ≡ type_in (results_at c op) i → IsLiveValue c v
+live_at c op i v at typed = by_item (slice_get (results_at c op) i) at typed where
+  by_item : (o : Option TypedValue) → option_map (λ (t : TypedValue). t.value) o ≡ Some v
+      → type_at c v ≡ option_map (λ (t : TypedValue). t.ty) o → IsLiveValue c v
+  by_item None e h = cc
+  by_item (Some t) e h = subst IsSome (sym h) refl
 
 module _ {O B : Type 0} (old built : Program O B) (op p : Ptr Operation) (content : O) (ty : TypeHandle) (builds : BuildsOperation old built p content (ty ∷ []) [] [] 0) (linked : IsLinkedOperation old op) where
   pub other : op ≢ p

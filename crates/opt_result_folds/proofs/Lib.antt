@@ -1,0 +1,3 @@
+pub mod Constants
+pub mod Wanted
+pub mod Still
