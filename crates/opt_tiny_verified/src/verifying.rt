@@ -5,8 +5,7 @@ ghost use Rattle.opt_tiny.specs.Meaning.{tiny};
 ghost use Rattle.opt_tiny_verified.specs.Faults.{is_memory_of};
 
 use crate::checked::Checked;
-use ir_context::TypedProgram;
-use ir_program::{Operation, Ptr};
+use ir_program::{Operation, Program, Ptr};
 use opt_inside::forwarding::fits_edges_from;
 use opt_inside::reach::{Start, know_edges_under};
 use opt_interfaces::OptVerifiers;
@@ -42,12 +41,13 @@ impl Refused {
 fn fits_edges_below(
     alloc: Global,
     op: Ptr<Operation>,
-    ctx: &TypedProgram<Payload, Bare, OneType>,
+    program: &Program<Payload, Bare>,
 ) -> Result<bool, AllocError>
-    ensures { IfOk result (λ fits. IsTrue fits ↔ FitsEdgesBelow tiny ctx.now.program op) }
+    ensures { IfOk result (λ fits. IsTrue fits ↔ FitsEdgesBelow tiny program.now op) }
 {
-    know_edges_under::<Checked>(ctx.program(), op);
-    fits_edges_from::<Checked>(alloc, ctx.program(), Start::Operation(op))
+    know_edges_under::<Checked>(program, op);
+    let fits = fits_edges_from::<Checked>(alloc, program, Start::Operation(op))?;
+    Ok(fits)
 }
 
 impl Verified for Checked {
@@ -74,7 +74,7 @@ impl Verified for Checked {
         op: Ptr<Operation>,
         ctx: &VerifiedContext<Checked>,
     ) -> Result<(), Refused> {
-        match fits_edges_below(alloc, op, ctx) {
+        match fits_edges_below(alloc, op, ctx.program()) {
             Ok(true) => Ok(()),
             Ok(false) => Err(Refused::Edges),
             Err(AllocError) => Err(Refused::Memory),
