@@ -1,5 +1,5 @@
 -- What pass managers are told, and what they count.
-use Rattle.std.specs.Prelude.{◌+◌, ℕ, Bool, ◌||◌, List, string_bytes, bytes_eq}
+use Rattle.std.specs.Prelude.{◌≡◌, ◌+◌, ℕ, Bool, false, ◌||◌, List, [], string_bytes, bytes_eq}
 use Rattle.std.specs.List.{list_any}
 use Rattle.std.specs.declared.string.String.{String}
 use Rattle.std.specs.declared.alloc.Global.{Global}
@@ -28,3 +28,12 @@ count_of d = d.state.pass_run_count
 -- one more
 abbrev pub counted : PMData → PMData
 counted d = record d { state = record d.state { pass_run_count = d.state.pass_run_count + 1 } }
+
+-- no pass is skipped, nothing is verified, and no pass was run
+pub record IsUntold (d : PMData) : Type 0 where
+  pub skip : d.config.skip_passes.items ≡ []
+  pub before : d.config.verify_before.items ≡ []
+  pub after : d.config.verify_after.items ≡ []
+  pub before_all : d.config.verify_before_all ≡ false
+  pub after_all : d.config.verify_after_all ≡ false
+  pub count : count_of d ≡ 0

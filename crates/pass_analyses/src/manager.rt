@@ -6,6 +6,7 @@ ghost use Rattle.opt_dialect.specs.declared.status.IRStatus.TheVariants.{Changed
 ghost use Rattle.pass_analyses.specs.Cached.{AreCached, Entries, cached, is_listed, of_kinds, kinds_of};
 ghost use Rattle.pass_analyses.specs.Fresh.{AllFresh, AreFresh};
 ghost use Rattle.pass_analyses.specs.Filled.{Computes, FillsIn};
+ghost use Rattle.pass_analyses.specs.Settings.{IsUntold};
 
 use crate::analysis::Analysis;
 use crate::cache::AnalysisCache;
@@ -66,9 +67,10 @@ pub struct AnalysisManager<E: Analysis> {
 }
 
 impl<E: Analysis> AnalysisManager<E> {
-    /// No analyses.
+    /// No analyses; no pass is skipped, nothing is verified, and no pass was run.
     pub fn new(alloc: Global) -> AnalysisManager<E>
-        ensures { result.analyses.entries.entries ≡ [] }
+        ensures none { result.analyses.entries.entries ≡ [] }
+        ensures data { IsUntold result.pm_data }
     {
         AnalysisManager {
             pm_data: PMData::new(alloc),
