@@ -55,7 +55,7 @@ impl<D: Verified, E: Analysis<Dialect = D>> Pass<D, E> for SimplifyCFGPass {
     ghost use Rattle.opt_passes.specs.Tested.{RunsTested};
 
     ghost behaviour = { record {
-      name_of = λ _. codes "simplify_cfg";
+      name_of = λ _. codes "simplify-cfg";
       manages = λ _. false;
       runs = λ p x c m r q d n. RunsTested D.accepts D.meaning.is_terminator (SimplifiesFlow D.meaning) x c m r d n;
     } };
@@ -68,7 +68,7 @@ impl<D: Verified, E: Analysis<Dialect = D>> Pass<D, E> for SimplifyCFGPass {
         tested_stay_fresh (flow_told D.meaning) E.Kind.eq E.reading run };
 
     fn name(&self) -> &str {
-        "simplify_cfg"
+        "simplify-cfg"
     }
 
     fn is_pass_manager(&self) -> bool {
