@@ -53,6 +53,8 @@ enum Fold {
     Branch,
     /// Of a result.
     Result,
+    /// Of all results.
+    Results,
 }
 
 /// The first operation of the first block of the first region.
@@ -86,6 +88,7 @@ fn make_fold(
             Tiny,
             OneType,
         >(alloc, op, ctx, &[known], &mut rewriter)),
+        Fold::Results => Ok(const_fold::fold_results::<Tiny, OneType>(alloc, op, ctx, &[known])),
         _ => Err(Unread::Text),
     }
 }
@@ -145,6 +148,17 @@ fn a_result_that_is_used_becomes_a_constant(rt: HostRuntime) -> Result<(), Fail>
 #[test]
 fn a_result_without_a_use_stays(rt: HostRuntime) -> Result<(), Fail> {
     let folded = makes(rt.alloc(), UNUSED, Fold::Result, Some(5), UNUSED)?;
+    assert_eq!(&rt; folded, (Ok(IRStatus::Unchanged), true));
+    Ok(())
+}
+
+#[test]
+fn all_results_become_constants_that_are_used_and_fold(rt: HostRuntime) -> Result<(), Fail> {
+    let folded = makes(rt.alloc(), USED, Fold::Results, Some(5), USED_AFTER)?;
+    assert_eq!(&rt; folded, (Ok(IRStatus::Changed), true));
+    let folded = makes(rt.alloc(), UNUSED, Fold::Results, Some(5), UNUSED)?;
+    assert_eq!(&rt; folded, (Ok(IRStatus::Unchanged), true));
+    let folded = makes(rt.alloc(), BRANCH, Fold::Results, Some(5), BRANCH)?;
     assert_eq!(&rt; folded, (Ok(IRStatus::Unchanged), true));
     Ok(())
 }
