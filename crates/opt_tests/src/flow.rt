@@ -243,6 +243,15 @@ use p
 ret
 }";
 
+/// There is nothing else to do.
+const OWN_ARGUMENT_ALONE: &str = "box {
+^a
+br ^b p
+^b p
+use p
+ret
+}";
+
 /// What stays takes a value of the block that nothing reaches.
 const LIVE_VALUE: &str = "box {
 ^b
@@ -291,6 +300,7 @@ const REFUSED: &[(&str, &str)] = &[
     (LIVE_VALUE, LIVE_VALUE),
     (OWN_ARGUMENT, OWN_ARGUMENT_AFTER),
     (OWN_ARGUMENT_AFTER, OWN_ARGUMENT_AFTER),
+    (OWN_ARGUMENT_ALONE, OWN_ARGUMENT_ALONE),
     (ROUND_ARGUMENTS, ROUND_ARGUMENTS),
 ];
 

@@ -132,6 +132,49 @@ use p
 ret
 }";
 
+/// There is something to join in the inner region alone.
+const INNER_CHAIN: &str = "box {
+^a
+box {
+^b
+br ^c
+^c
+ret
+}
+ret
+}";
+
+/// There is something to remove in the inner region alone.
+const INNER_LEFT: &str = "box {
+^a
+box {
+^b
+ret
+^u
+ret
+}
+ret
+}";
+
+const INNER_AFTER: &str = "box {
+^a
+box {
+^b
+ret
+}
+ret
+}";
+
+/// The blocks that nothing reaches lead to each other.
+const ROUND_UNREACHED: &str = "box {
+^b
+ret
+^u
+br ^v
+^v
+br ^u
+}";
+
 /// Where removal of blocks begins, programs, and what it makes of them.
 const REMOVALS: &[(Place, &str, &str)] = &[
     (Place::Operation, LEFT_OUT, LEFT_OUT_AFTER),
@@ -141,6 +184,7 @@ const REMOVALS: &[(Place, &str, &str)] = &[
     (Place::Region, BOTH, BOTH_REMOVED),
     (Place::Block, BOTH, INNER_REMOVED),
     (Place::InnerRegion, BOTH, INNER_REMOVED),
+    (Place::Block, INNER_LEFT, INNER_AFTER),
 ];
 
 /// Where joining of chains begins, programs, and what it makes of them.
@@ -151,6 +195,8 @@ const JOININGS: &[(Place, &str, &str)] = &[
     (Place::Region, BOTH, BOTH_JOINED),
     (Place::Block, BOTH, INNER_JOINED),
     (Place::InnerRegion, BOTH, INNER_JOINED),
+    (Place::Block, INNER_CHAIN, INNER_AFTER),
+    (Place::InnerRegion, INNER_CHAIN, INNER_AFTER),
 ];
 
 /// Programs that an optimisation leaves as they are.
@@ -160,6 +206,7 @@ const UNCHANGED: &[(Pass, &str)] = &[
     (Pass::RemoveBlocks(Place::InnerRegion), INNER_REMOVED),
     (Pass::Merge(Place::Operation), LEFT_OUT),
     (Pass::Merge(Place::Operation), UNREACHED),
+    (Pass::Merge(Place::Operation), ROUND_UNREACHED),
     (Pass::Merge(Place::Block), INNER_JOINED),
     (Pass::Merge(Place::InnerRegion), INNER_JOINED),
 ];
