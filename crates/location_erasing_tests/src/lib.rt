@@ -1,7 +1,0 @@
-//! Tests of the erasing of locations.
-#![tactic(auto)]
-
-#[cfg(test)]
-mod nested;
-#[cfg(test)]
-mod nesting;

@@ -1,5 +1,0 @@
-//! Tests of the texts of locations.
-#![tactic(auto)]
-
-#[cfg(test)]
-mod locations;
